@@ -1,5 +1,7 @@
-use Rattle.std.proofs.Common.{◌≡◌, ◌↔◌, ◌∷◌, [], Some, true, map, sym, ap, ap₂, ◌∙◌, rules}
-use Rattle.office_closing.specs.{Register.{SealedContent, register_content, sealed_content}, Seals.{Sealed, closed_at, seal_at, sealed_with, seals_of}}
+use Rattle.std.proofs.Common.{◌≡◌, ◌↔◌, Some, true, map, sym, ap, ap₂, ◌∙◌, rules}
+use Rattle.sqlite.specs.Held.{state}
+use Rattle.office_tables.proofs.WriteLemmas.{nothing_read, only_on, only_stopped}
+use Rattle.office_closing.specs.{Register.{SealedContent, register_content, sealed_content}, Seals.{Sealed, closed_at, seal_at, sealed_with}}
 use Rattle.office_closing.proofs.SealLemmas.{has_one}
 use Rattle.office_closing.proofs.seals.has_seal_of.Goals as goal
 
@@ -17,3 +19,18 @@ returns-clause-has g c clean rows has once =
     sym (ap₂ (λ k s. seal_at k s partner number) (c.deref-3.ensures.value ∙ closing) c.deref-4.ensures.value) ∙ c.in-Some-seal_at.ensures.found in
     let tells : (c.eq.result ≡ true) ↔ (c.in_ok-own.own.items ≡ sealed.seal) = search rules in
     has_one register place rows one some partner number sealed c.in_ok-own.own.items c.eq.result found (c.in_ok-own.ensures.seals clean rows has once) tells
+
+pub returns-in_default-clause-reads : goal.returns-in_default-clause-reads
+returns-in_default-clause-reads g c = nothing_read (state g.S.Store c.args.conn.now) _
+
+pub returns-in_err-closing-clause-reads : goal.returns-in_err-closing-clause-reads
+returns-in_err-closing-clause-reads g c = nothing_read (state g.S.Store c.args.conn.now) _
+
+pub returns-in_default-seal_at-clause-reads : goal.returns-in_default-seal_at-clause-reads
+returns-in_default-seal_at-clause-reads g c = nothing_read (state g.S.Store c.args.conn.now) _
+
+pub returns-in_err-own-clause-reads : goal.returns-in_err-own-clause-reads
+returns-in_err-own-clause-reads g c = only_stopped _ c.from_residual-in_err-own.ensures.0 c.in_err-own.ensures.reads
+
+pub returns-clause-reads : goal.returns-clause-reads
+returns-clause-reads g c = only_on _ c.in_ok-own.ensures.reads
