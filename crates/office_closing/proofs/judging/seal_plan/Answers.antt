@@ -25,4 +25,5 @@ returns-else-are_sealed_as-clause-err c =
     let off : is_unraised plan.stage ≡ false = sym c.is_unraised-is_due.ensures ∙ c.if-is_due.false in
     let tested : list_all (λ (one : SealedContent). bytes_eq one.seals seals) (map sealed_content plan.sealed.items) ≡ c.are_sealed_as.result =
     sym (c.are_sealed_as.ensures ∙ ap₂ (λ s l. list_all (λ (one : SealedContent). bytes_eq one.seals s) (map sealed_content l)) c.deref-2.ensures.value c.deref.ensures.value) in
-    (off, one_without seals (map sealed_content plan.sealed.items) (tested ∙ c.if-are_sealed_as.false))
+    let one = one_without seals (map sealed_content plan.sealed.items) (tested ∙ c.if-are_sealed_as.false) in
+    (off, one.0, one.1, one.2)
