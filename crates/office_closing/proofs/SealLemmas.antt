@@ -1,12 +1,12 @@
 -- Seals: what adding one interchange after the other comes to, of a partner's numbers and then of the next one's.
 use Rattle.std.specs.{Prelude.{◌↔◌, IfSome, OnOk, is_ok, option_map, option_to_list, string_bytes}, List.{flat_map, range_with_len}, Option.unwrap_or}
-use Rattle.std.proofs.Common.{◌≡◌, ℕ, zero, suc, ◌+◌, ◌-◌, ◌*◌, ◌<◌, ◌≤◌, max, nat_lt, List, [], ◌∷◌, ◌++◌, filter, get_or, take, drop, Bool, true, false, ◌&&◌, cond, eqb, if◌then◌else◌, Option, None, Some, Result, Ok, Err, String, length, fold, refl, sym, ap, subst, ◌∙◌, append_assoc, add-one, arith}
-use Rattle.std.proofs.{Math.Seq.drop-cons, lemmas.List.append-nil, lemmas.List.Elements.filter_more, lemmas.List.Sums.fold-append, lemmas.Grind.flat_map-append}
+use Rattle.std.proofs.Common.{◌≡◌, ℕ, zero, suc, ◌+◌, ◌-◌, ◌<◌, ◌≤◌, max, nat_lt, List, [], ◌∷◌, ◌++◌, filter, get_or, take, Bool, true, false, ◌&&◌, cond, eqb, if◌then◌else◌, Option, None, Some, Result, Ok, Err, String, length, fold, refl, sym, ap, subst, ◌∙◌, append_assoc, arith}
+use Rattle.std.proofs.{lemmas.List.append-nil, lemmas.List.Elements.filter_more, lemmas.List.Sums.fold-append, lemmas.Grind.flat_map-append}
 use Rattle.office_rows.specs.Rows.{Interchange, Rows}
 use Rattle.office_history.specs.After.{AreKeptOnce}
 use Rattle.office_tables.{specs.{Answers.{IsKept, RepliesAs}, declared.interchanges.Kept.Kept}, proofs.WriteLemmas.{none_kept, one_kept}}
-use Rattle.office_closing.{specs.{declared.comparing.Numbers.Numbers, declared.register.Segment.Segment, Deleting.is_of as is_of_numbers, Register.{RegisterContent, SealedContent, is_of, last_closed}}, proofs.Created.{last_pushed, no_higher}}
-use Rattle.office_closing.specs.Seals.{HasSealOf, HasSeals, KeptContent, Sealed, SealingContent, add_any, add_one, closed_at, content_of_kept, end_partner, kept_at, kept_content, kept_under, most_sealed, pieces_after, seal_among, seal_at, seal_bytes, seal_of, sealed_with, seals_count, seals_of, seals_under, with_kept}
+use Rattle.office_closing.{specs.{declared.comparing.Numbers.Numbers, declared.register.Segment.Segment, Register.{RegisterContent, SealedContent, is_of, last_closed}}, proofs.Created.{last_pushed, no_higher}}
+use Rattle.office_closing.specs.Seals.{HasSealOf, HasSeals, KeptContent, Sealed, SealingContent, add_any, add_one, closed_at, content_of_kept, end_partner, kept_at, kept_content, kept_under, most_sealed, pieces_after, seal_at, seal_of, sealed_with, seals_of, seals_under, with_kept}
 
 -- what a call that did not fail has done
 pub on_ok_is : {T E P : Type 0} (result : Result T E) → OnOk result P → is_ok result ≡ true → P
@@ -15,26 +15,26 @@ on_ok_is (Err error) done e = absurd cc
 
 -- ---- what was closed before an archive
 
-module _ (place partner : ℕ) where
+module _ (place partner : ℕ) (segments : List Segment) (i : ℕ) (d : Segment) where
   abbrev is_before : Segment → Bool
   is_before one = nat_lt one.archive place
 
+  abbrev one : Segment
+  one = get_or segments i d
+
+  abbrev before : List Segment
+  before = filter is_before (take i segments)
+
+  last_with : (b : Bool) → max (last_closed before partner) (if b && is_of partner one then one.last else 0) ≡ last_closed (before ++ cond b (one ∷ []) []) partner
+  last_with true = sym (last_pushed partner before one)
+  last_with false = no_higher (last_closed before partner) ∙ sym (ap (λ l. last_closed l partner) (append-nil before))
+
   -- one more segment
-  pub before_more : (segments : List Segment) (i : ℕ) (d : Segment) (last : ℕ) → i < length segments → last ≡ last_closed (filter is_before (take i segments)) partner
-      → max last (if nat_lt (get_or segments i d).archive place && is_of partner (get_or segments i d) then (get_or segments i d).last else 0) ≡ last_closed (filter is_before (take (i + 1) segments)) partner
-  before_more segments i d last within is =
-      ap (λ n. max n (if is_before one && is_of partner one then one.last else 0)) is ∙ by (is_before one)
+  pub before_more : (last : ℕ) → i < length segments → last ≡ last_closed before partner
+      → max last (if is_before one && is_of partner one then one.last else 0) ≡ last_closed (filter is_before (take (i + 1) segments)) partner
+  before_more last within is =
+      ap (λ n. max n (if is_before one && is_of partner one then one.last else 0)) is ∙ last_with (is_before one)
       ∙ sym (ap (λ l. last_closed l partner) (filter_more is_before segments i d within))
-    where
-      abbrev one : Segment
-      one = get_or segments i d
-
-      abbrev before : List Segment
-      before = filter is_before (take i segments)
-
-      by : (b : Bool) → max (last_closed before partner) (if b && is_of partner one then one.last else 0) ≡ last_closed (before ++ cond b (one ∷ []) []) partner
-      by true = sym (last_pushed partner before one)
-      by false = no_higher (last_closed before partner) ∙ sym (ap (λ l. last_closed l partner) (append-nil before))
 
 -- ---- pieces
 
@@ -64,9 +64,9 @@ range_more a zero = ap (λ k. k ∷ []) (plus_none a)
   where
     plus_none : (k : ℕ) → k ≡ k + 0
     plus_none k = omega arith
-range_more a (suc n) = ap (λ l. a ∷ l) (range_more (suc a) n ∙ ap (λ k. range_with_len (suc a) n ++ k ∷ []) (moved a n))
+range_more a (suc n) = ap (λ l. a ∷ l) (range_more (a + 1) n ∙ ap (λ k. range_with_len (a + 1) n ++ k ∷ []) (moved a n))
   where
-    moved : (k m : ℕ) → suc k + m ≡ k + suc m
+    moved : (k m : ℕ) → k + 1 + m ≡ k + suc m
     moved k m = omega arith
 
 abbrev pub up_to : Numbers → ℕ → Numbers
@@ -107,7 +107,7 @@ module _ (rows : Rows) (numbers : Numbers) where
     where
       any_is : (so_far : SealingContent) (any : Option KeptContent) → add_any so_far any ≡ fold add_one so_far (option_to_list any)
       any_is so_far None = refl
-      any_is so_far (Some one) = refl
+      any_is so_far (Some kept) = refl
 
 -- ---- the numbers of one partner after the other
 
@@ -121,24 +121,6 @@ sealed_more rows before numbers after is =
   where
     more : seals_of rows before ++ seals_under rows numbers ≡ seals_of rows after
     more = ap (λ l. seals_of rows before ++ l) (sym (append-nil (seals_under rows numbers))) ∙ sym (flat_map-append (seals_under rows) before (numbers ∷ [])) ∙ ap (seals_of rows) (sym is)
-
--- ---- the seal of a number
-
-module _ (closing : List Numbers) (seals : List ℕ) (partner number i : ℕ) (d : Numbers) (rest : List ℕ) (within : i < length closing)
-    (is : seal_at closing seals partner number ≡ seal_at (drop i closing) rest partner number) where
-  abbrev here : Numbers
-  here = get_or closing i d
-
-  at_here : seal_at closing seals partner number ≡ cond (is_of_numbers partner number here) (seal_among here rest number) (seal_at (drop (i + 1) closing) (drop (seal_bytes * seals_count here) rest) partner number)
-  at_here = is ∙ ap (λ l. seal_at l rest partner number) (drop-cons closing i d within ∙ ap (λ k. here ∷ drop k closing) (sym (add-one i)))
-
-  -- it is one of these
-  pub at_this : is_of_numbers partner number here ≡ true → seal_at closing seals partner number ≡ seal_among here rest number
-  at_this yes = at_here ∙ ap (λ b. cond b (seal_among here rest number) (seal_at (drop (i + 1) closing) (drop (seal_bytes * seals_count here) rest) partner number)) yes
-
-  -- it is none of them
-  pub at_later : is_of_numbers partner number here ≡ false → seal_at closing seals partner number ≡ seal_at (drop (i + 1) closing) (drop (seal_bytes * seals_count here) rest) partner number
-  at_later no = at_here ∙ ap (λ b. cond b (seal_among here rest number) (seal_at (drop (i + 1) closing) (drop (seal_bytes * seals_count here) rest) partner number)) no
 
 -- ---- what is read
 

@@ -1,11 +1,11 @@
 //! Seals: what tells the texts that an archive closes, and their replies, from all others.
 ghost use Rattle.std.specs.Prelude.{◌≡◌, [], ◌∷◌, ◌++◌, ℕ, List, IfErr, IfOk, OnOk, option_map};
 ghost use Rattle.sha2.specs.{Hashers.Holds256, Sha256.sha256};
-ghost use Rattle.office_closing.specs.Seals.{HoldsSealing, SealingContent, add_any, add_one, content_of_kept, end_partner, measured, no_seals, seals_of, with_kept};
+ghost use Rattle.office_closing.specs.Seals.{HoldsSealing, SealingContent, add_any, add_one, content_of_kept, end_partner, kept_at, measured, no_seals, seals_of, with_kept};
 ghost use Rattle.office_closing.specs.Comparing.{HasUnfitAmong};
 ghost use Rattle.office_history.specs.After.{AreKeptOnce};
 ghost use Rattle.office_rows.specs.{Rows.Rows, Stored.HasRows};
-ghost use Rattle.office_tables.specs.{DeliveryReading.OnlyReads, Faults.IsOfStoreOr};
+ghost use Rattle.office_tables.specs.{Answers.HasUnfitReply, DeliveryReading.OnlyReads, Faults.IsOfStoreOr};
 ghost use Rattle.sqlite.specs.{Held.state, State.HasCleanDisk};
 
 use crate::comparing::Numbers;
@@ -160,9 +160,27 @@ fn seal_partner<S: Alter>(
     let mut number = numbers.from;
     while number < numbers.to {
         number += 1;
-        let kept = kept(conn, numbers.partner, number)?;
-        sealing.add(&kept)?;
+        seal_number(conn, numbers.partner, number, sealing)?;
     }
     sealing.end_partner()?;
+    Ok(())
+}
+
+/// Adds what a file keeps under a partner's number, if anything.
+fn seal_number<S: Alter>(
+    conn: &mut Connection<S>,
+    partner: u16,
+    number: u32,
+    sealing: &mut Sealing,
+) -> Result<(), TableFault>
+    ensures seals { HasCleanDisk (state S.Store conn.new) → OnOk result ((rows : Rows) →
+        HasRows rows (state S.Store conn.old).now → AreKeptOnce rows.interchanges → (sealed : SealingContent) →
+        HoldsSealing sealing.old sealed → HoldsSealing sealing.new (add_any sealed (kept_at rows partner number))) }
+    ensures fault { HasCleanDisk (state S.Store conn.new) → IfErr result (λ fault. (rows : Rows) →
+        HasRows rows (state S.Store conn.old).now → IsOfStoreOr (HasUnfitReply partner number rows) fault) }
+    ensures reads { OnlyReads (state S.Store conn.old) (state S.Store conn.new) result }
+{
+    let kept = kept(conn, partner, number)?;
+    sealing.add(&kept)?;
     Ok(())
 }

@@ -1,5 +1,5 @@
 //! Whether a file keeps what a register has sealed with an archive.
-ghost use Rattle.std.specs.Prelude.{◌≡◌, ◌↔◌, IfNone, IfOk, IfSome, None, Some, ◌<◌, ◌+◌, ◌*◌, ◌^◌, ◌&&◌, drop, filter, if◌then◌else◌, nat_lt, true};
+ghost use Rattle.std.specs.Prelude.{◌≡◌, ◌↔◌, IfNone, IfOk, IfSome, None, Some, ◌<◌, ◌+◌, ◌*◌, ◌^◌, ◌&&◌, drop, filter, if◌then◌else◌, max, nat_lt, true};
 ghost use Rattle.office_closing.specs.{Register.{is_of, last_closed, register_content}, declared.register.Segment.Segment, Deleting.is_of as is_number_of};
 ghost use Rattle.office_closing.specs.Seals.{HasSealOf, HasSeals, closed_at, most_sealed, piece_at, seal_among, seal_at, seal_bytes, seals_count};
 ghost use Rattle.office_history.specs.After.{AreKeptOnce};
@@ -38,7 +38,8 @@ pub fn has_seals<S: Alter>(
     Ok(seals.as_slice() == sealed.seals.as_slice())
 }
 
-/// Whether a file keeps what a register has sealed together with a partner's number, with the archive at a place; also if the register has no seals of that. It changes nothing.
+/// Whether a file keeps what a register has sealed together with a partner's number, with the archive at a place; also if the
+/// register has no seals of that archive. It changes nothing.
 ///
 /// Damaged if a reply is no text; Store and Memory say nothing of the rows.
 pub fn has_seal_of<S: Alter>(
@@ -88,7 +89,7 @@ fn last_before(segments: &[Segment], place: u16, partner: u16) -> u32
 {
     let mut last = 0;
     for segment in segments {
-        last = last.max(last_if_before(*segment, place, partner));
+        last = larger(last, last_if_before(*segment, place, partner));
     }
     last
 }
@@ -102,6 +103,13 @@ fn last_if_before(segment: Segment, place: u16, partner: u16) -> u32
     } else {
         0
     }
+}
+
+/// The larger of two numbers.
+fn larger(one: u32, other: u32) -> u32
+    ensures { result ≡ max one other }
+{
+    if one < other { other } else { one }
 }
 
 /// Of the seals of these numbers the one of a partner's number, with the numbers that have it together; none if there is none.

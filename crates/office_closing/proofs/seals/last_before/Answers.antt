@@ -4,5 +4,5 @@ use Rattle.office_closing.proofs.seals.last_before.Goals as goal
 
 pub loop-segment-preserved : goal.loop-segment-preserved
 loop-segment-preserved c =
-    c.max-last.ensures ∙ ap (max c.loop-segment.last) c.last_if_before.ensures
+    c.larger-last.ensures ∙ ap (max c.loop-segment.last) c.last_if_before.ensures
     ∙ before_more c.args.place c.args.partner c.args.segments.now c.loop-segment.segment-index _ c.loop-segment.last c.loop-segment-test.true c.loop-segment.invariant
