@@ -190,7 +190,7 @@ told_archive g is_known holds list shelf names opened now place IsSo archive tol
 pub told_report : {S F T : Type 0} (g : Ghosts S) (is_known : ℕ → Type 0) (holds : List Archive → F → Type 0) (shelf : F) (names : Register) (opened now : List (Opened S g)) (place : ℕ) (IsSo : T → Rows → Type 0) (result : Result T TableFault)
     → (AreSealed g (register_content names) opened → IfOk result (λ found. IsToldBy g (OpensFor g is_known holds shelf names opened place) place now (IsSo found))) → IsLastSound g is_known now
     → IfOk result (λ found. (list : List Archive) → AreShelved g is_known holds list shelf names opened → (archive : Archive) → archive_at list place ≡ Some archive → IsSo found archive.rows)
-told_report g is_known holds shelf names opened now place IsSo (Ok found) told last list are archive at =
+told_report g is_known holds shelf names opened now place IsSo (Ok found) told last = λ list are archive at.
     (told_archive g is_known holds list shelf names opened now place (IsSo found) archive (told are.are_sealed) last are at).0
 told_report g is_known holds shelf names opened now place IsSo (Err fault) told last = tt
 

@@ -38,3 +38,15 @@ returns-clause-same g c list are =
     c.put_back.ensures.same list (leaves.same list are) (leaves.room are.few_open)
     (known_still g.S.Store opened c.kept.new.self.conn (λ clean. clean_first reads clean) (λ clean now_open. (reads.keeps clean).was_open now_open) (λ clean now_open. (reads.keeps clean).committed now_open) g.F.Shelf.is_known list c.args.place there (λ known. taken.0 known list are))
     (sealed_still g.S.Store opened c.kept.new.self.conn (λ clean. clean_first reads clean) (λ clean now_open. (reads.keeps clean).was_open now_open) (λ clean now_open. (reads.keeps clean).committed now_open) self.register _ leaves.named (rw c.in-Some.is at (c.in_ok-opened.ensures.said are.are_sealed)))
+
+pub returns-in_err-put_back-clause-same : goal.returns-in_err-put_back-clause-same
+returns-in_err-put_back-clause-same g c list are =
+    let self = c.args.self.now in
+    let opened = c.in-Some.opened in
+    let reads = c.kept.ensures.reads in
+    let leaves = c.take_if_sealed.ensures.leaves in
+    let there = rw c.in-Some.is at c.in_ok-opened.ensures.place in
+    let taken = rw c.in-Some.is at c.in_ok-opened.ensures.sealed in
+    c.put_back.ensures.same list (leaves.same list are) (leaves.room are.few_open)
+    (known_still g.S.Store opened c.kept.new.self.conn (λ clean. clean_first reads clean) (λ clean now_open. (reads.keeps clean).was_open now_open) (λ clean now_open. (reads.keeps clean).committed now_open) g.F.Shelf.is_known list c.args.place there (λ known. taken.0 known list are))
+    (sealed_still g.S.Store opened c.kept.new.self.conn (λ clean. clean_first reads clean) (λ clean now_open. (reads.keeps clean).was_open now_open) (λ clean now_open. (reads.keeps clean).committed now_open) self.register _ leaves.named (rw c.in-Some.is at (c.in_ok-opened.ensures.said are.are_sealed)))

@@ -37,4 +37,16 @@ returns-clause-same g c list are =
     let taken = rw c.in-Some.is at (c.in_ok-opened.ensures.sealed are.are_sealed) in
     c.put_back.ensures.same list (leaves.same list are) (leaves.room are.few_open)
     (known_still g.S.Store opened c.report.new.self.conn (λ clean. was_clean reads clean) (λ clean now_open. was_open reads clean now_open) (λ clean now_open. (reads.reads.keeps clean).committed now_open) g.F.Shelf.is_known list c.args.place there (λ known. taken.0 known list are))
-    (sealed_still g.S.Store opened c.report.new.self.conn (λ clean. was_clean reads clean) (λ clean now_open. was_open reads clean now_open) (λ clean now_open. (reads.reads.keeps clean).committed now_open) self.register _ leaves.named (λ yes. subst (λ at. ShowsSo g.S.Store opened.archive.conn (HasSeals (register_content self.register) at)) (sym there) taken.1))
+    (sealed_still g.S.Store opened c.report.new.self.conn (λ clean. was_clean reads clean) (λ clean now_open. was_open reads clean now_open) (λ clean now_open. (reads.reads.keeps clean).committed now_open) self.register _ leaves.named (λ found. subst (λ at. ShowsSo g.S.Store opened.archive.conn (HasSeals (register_content self.register) at)) (sym there) taken.1))
+
+pub returns-in_err-put_back-clause-same : goal.returns-in_err-put_back-clause-same
+returns-in_err-put_back-clause-same g c list are =
+    let self = c.args.self.now in
+    let opened = c.in-Some.opened in
+    let reads = c.report.ensures.reads in
+    let leaves = c.take_if_all_sealed.ensures.leaves in
+    let there = rw c.in-Some.is at c.in_ok-opened.ensures.place in
+    let taken = rw c.in-Some.is at (c.in_ok-opened.ensures.sealed are.are_sealed) in
+    c.put_back.ensures.same list (leaves.same list are) (leaves.room are.few_open)
+    (known_still g.S.Store opened c.report.new.self.conn (λ clean. was_clean reads clean) (λ clean now_open. was_open reads clean now_open) (λ clean now_open. (reads.reads.keeps clean).committed now_open) g.F.Shelf.is_known list c.args.place there (λ known. taken.0 known list are))
+    (sealed_still g.S.Store opened c.report.new.self.conn (λ clean. was_clean reads clean) (λ clean now_open. was_open reads clean now_open) (λ clean now_open. (reads.reads.keeps clean).committed now_open) self.register _ leaves.named (λ found. subst (λ at. ShowsSo g.S.Store opened.archive.conn (HasSeals (register_content self.register) at)) (sym there) taken.1))

@@ -29,8 +29,8 @@ returns-in-Some g c =
     }
 
 -- one that was opened
-pub returns-in-None : goal.returns-in-None
-returns-in-None g c =
+pub returns-in_ok-archive-in-None : goal.returns-in_ok-archive-in-None
+returns-in_ok-archive-in-None g c =
     let self = c.args.self.now in
     let place = c.args.place in
     let items = self.opened.items in
@@ -39,12 +39,12 @@ returns-in-None g c =
     record {
       place = refl;
       opened = λ known list are. c.in_ok-archive.ensures.opened known list are.on_shelf;
-      said = λ are yes. absurd cc;
+      said = λ are found. absurd cc;
       leaves = leaves_open g.S.Store g.F.Shelf.is_known g.F.Shelf.holds self.shelf c.open.new.self self.register self.register place items c.make_room.new.opened.items refl c.open.ensures.same left;
     }
 
-pub returns-in_err-archive-clause-leaves : goal.returns-in_err-archive-clause-leaves
-returns-in_err-archive-clause-leaves g c =
+pub returns-in_err-archive-in-None-clause-leaves : goal.returns-in_err-archive-in-None-clause-leaves
+returns-in_err-archive-in-None-clause-leaves g c =
     let self = c.args.self.now in
     let place = c.args.place in
     let items = self.opened.items in
