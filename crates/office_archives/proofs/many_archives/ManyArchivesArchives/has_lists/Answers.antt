@@ -31,19 +31,19 @@ none_before (suc count) (one ∷ list) name none = by (lines_away list name) (no
 
 none_among : (count : ℕ) (lists : List SettledList) → list_any (λ list. is_among count (list_content list)) lists ≡ false → lists_among count (map list_content lists) ≡ []
 none_among count [] no = refl
-none_among count (list ∷ lists) no = by (is_among count (list_content list)) no
+none_among count (list ∷ lists) no = by (is_among count (list_content list)) (none_among count lists) no
   where
-    by : (is : Bool) → (is || list_any (λ list. is_among count (list_content list)) lists) ≡ false → cond is (list_content list ∷ lists_among count (map list_content lists)) (lists_among count (map list_content lists)) ≡ []
-    by true no = absurd (true≢false no)
-    by false no = none_among count lists no
+    by : (is : Bool) → (list_any (λ list. is_among count (list_content list)) lists ≡ false → lists_among count (map list_content lists) ≡ []) → (is || list_any (λ list. is_among count (list_content list)) lists) ≡ false → cond is (list_content list ∷ lists_among count (map list_content lists)) (lists_among count (map list_content lists)) ≡ []
+    by true rest no = absurd (true≢false no)
+    by false rest no = rest no
 
 some_among : (count : ℕ) (lists : List SettledList) → list_any (λ list. is_among count (list_content list)) lists ≡ true → lists_among count (map list_content lists) ≡ [] → ⊥
 some_among count [] yes none = true≢false (sym yes)
-some_among count (list ∷ lists) yes none = by (is_among count (list_content list)) yes none
+some_among count (list ∷ lists) yes none = by (is_among count (list_content list)) (some_among count lists) yes none
   where
-    by : (is : Bool) → (is || list_any (λ list. is_among count (list_content list)) lists) ≡ true → cond is (list_content list ∷ lists_among count (map list_content lists)) (lists_among count (map list_content lists)) ≡ [] → ⊥
-    by true yes none = absurd cc
-    by false yes none = some_among count lists yes none
+    by : (is : Bool) → (list_any (λ list. is_among count (list_content list)) lists ≡ true → lists_among count (map list_content lists) ≡ [] → ⊥) → (is || list_any (λ list. is_among count (list_content list)) lists) ≡ true → cond is (list_content list ∷ lists_among count (map list_content lists)) (lists_among count (map list_content lists)) ≡ [] → ⊥
+    by true rest found none = absurd cc
+    by false rest found none = rest found none
 
 -- the register keeps the lines of one, or of none
 pub returns : goal.returns
