@@ -112,7 +112,7 @@ module _ (archives archive : ℕ) (terminal seals others : List ℕ) where
   sealed_alike : (sealed : List SealedContent) → are_sound_sealed archives (sealed ++ one_seal seals ∷ []) ≡ are_sound_sealed archives (sealed ++ one_seal others ∷ [])
   sealed_alike sealed = ap₂ (λ a b. a && b) (may_be_alike sealed) (in_turn_alike 0 sealed)
 
-sound_but : RegisterContent → Bool → Bool
+abbrev sound_but : RegisterContent → Bool → Bool
 sound_but c sealed =
     are_sound_archives c.archives
     && (are_sound_segments (length c.archives) c.segments
@@ -156,13 +156,15 @@ all_with seals (one ∷ sealed) e =
 
 pub one_without : (seals : List ℕ) (sealed : List SealedContent) → list_all (λ (one : SealedContent). bytes_eq one.seals seals) sealed ≡ false → (one : SealedContent) × Contains sealed one × (one.seals ≢ seals)
 one_without seals [] e = absurd cc
-one_without seals (one ∷ sealed) e = by (bytes_eq one.seals seals) refl e
+one_without seals (one ∷ sealed) e = by (bytes_eq one.seals seals) refl e (one_without seals sealed)
   where
-    by : (b : Bool) → bytes_eq one.seals seals ≡ b → (b && list_all (λ (one : SealedContent). bytes_eq one.seals seals) sealed) ≡ false → (other : SealedContent) × Contains (one ∷ sealed) other × (other.seals ≢ seals)
-    by true is off =
-        let rest = one_without seals sealed off in
+    by : (b : Bool) → bytes_eq one.seals seals ≡ b → (b && list_all (λ (one : SealedContent). bytes_eq one.seals seals) sealed) ≡ false
+        → (list_all (λ (one : SealedContent). bytes_eq one.seals seals) sealed ≡ false → (other : SealedContent) × Contains sealed other × (other.seals ≢ seals))
+        → (other : SealedContent) × Contains (one ∷ sealed) other × (other.seals ≢ seals)
+    by true is off more =
+        let rest = more off in
         (rest.0, tail_in one rest.0 sealed rest.1, rest.2)
-    by false is off = (
+    by false is off more = (
       one,
       head_in one sealed,
       λ same.
@@ -209,15 +211,15 @@ sealed_kept seals plan sealed with_ off =
 
 filtered_in : {A : Type 0} (p : A → Bool) (xs : List A) (x : A) → Contains (filter p xs) x → Contains xs x × (p x ≡ true)
 filtered_in p [] x inside = absurd (omega (arith, inside.1))
-filtered_in {A} p (y ∷ xs) x inside = by (p y) refl inside.0 inside.1 inside.2
+filtered_in {A} p (y ∷ xs) x inside = by (filtered_in p xs x) (p y) refl inside.0 inside.1 inside.2
   where
-    by : (b : Bool) → p y ≡ b → (k : ℕ) → k < length (cond b (y ∷ filter p xs) (filter p xs)) → slice_index_or (cond b (y ∷ filter p xs) (filter p xs)) k x ≡ x → Contains (y ∷ xs) x × (p x ≡ true)
-    by true e zero within is = (subst (Contains (y ∷ xs)) is (head_in y xs), subst (λ z. p z ≡ true) is e)
-    by true e (suc k) within is =
-        let rest = filtered_in p xs x (k, omega (arith, within), is) in
+    by : (Contains (filter p xs) x → Contains xs x × (p x ≡ true)) → (b : Bool) → p y ≡ b → (k : ℕ) → k < length (cond b (y ∷ filter p xs) (filter p xs)) → slice_index_or (cond b (y ∷ filter p xs) (filter p xs)) k x ≡ x → Contains (y ∷ xs) x × (p x ≡ true)
+    by more true e zero within is = (subst (Contains (y ∷ xs)) is (head_in y xs), subst (λ z. p z ≡ true) is e)
+    by more true e (suc k) within is =
+        let rest = more (k, omega (arith, within), is) in
         (tail_in y x xs rest.0, rest.1)
-    by false e k within is =
-        let rest = filtered_in p xs x (k, within, is) in
+    by more false e k within is =
+        let rest = more (k, within, is) in
         (tail_in y x xs rest.0, rest.1)
 
 raised_sealed : (own : OfficeContent) (place : ℕ) (s : Stage) → is_unraised s ≡ false → sealed_at own place [] s ≡ filter (is_sealed_with place) own.register.sealed
@@ -234,7 +236,7 @@ sealing_tells held old has names own copy of_own of_copy named seals plan is are
     let copy_register = of_copy.registered held.copied has.copied has.copied_sound in
     let place = (archive_in names.archive copy).place in
     let one = other.1 in
-    let inside = subst (λ l. Contains l one) (is.sealed ∙ raised_sealed own place plan.stage other.0) other.2.0 in
+    let inside = subst (λ l. Contains l one) (is.sealed ∙ raised_sealed own place plan.stage other.0) other.2 in
     let found = filtered_in (is_sealed_with place) own.register.sealed one inside in
     let numbers = is.numbers ∙ ap (λ (c : RegisterContent). numbers_from (last_closed c.segments) 1 copy.nexts) copy_register in (
       one,
@@ -242,7 +244,7 @@ sealing_tells held old has names own copy of_own of_copy named seals plan is are
       eqb-true one.archive place found.1 ∙ ap (λ (c : RegisterContent). length c.archives + 1) copy_register,
       copy.nexts,
       of_copy.nexts held.copy has.copy,
-      λ e. other.2.1 (e ∙ sym (are ∙ ap (seals_of held.copy) numbers)),
+      λ e. other.3 (e ∙ sym (are ∙ ap (seals_of held.copy) numbers)),
     )
 sealing_tells held old has names own copy of_own of_copy named seals plan is are (fault.Archive refusal.Closed) other = absurd other
 sealing_tells held old has names own copy of_own of_copy named seals plan is are (fault.Archive refusal.Office) other = absurd other
