@@ -19,13 +19,11 @@ pub struct Head<'a> {
     trailer: Segment<'a>,
     tally: Option<Tally>,
     number: u32,
-    moment: Moment,
     pub ghost faultless: { header_fault_of (content header ∷ segments_left rest) ≡ None },
     pub ghost closed: { content trailer ≡ last_of (content header) (segments_left rest) },
     pub ghost bounded: { length (segments_left rest) ≤ most_bytes },
     ghost tallied: { tally ≡ tally_in (segments_left rest) } by { Prim.hlevel props },
     ghost numbered: { control_number (content header) ≡ Some number },
-    ghost dated: { preparation (content header) ≡ Some moment },
 }
 
 impl<'a> Head<'a> {
@@ -74,7 +72,6 @@ impl<'a> Head<'a> {
             trailer: survey.trailer,
             tally: survey.tally,
             number: found.number,
-            moment: found.moment,
         })
     }
 
@@ -138,7 +135,7 @@ impl<'a> Head<'a> {
     pub fn moment(&self) -> Moment
         ensures { preparation (header_of (head_segments self.now)) ≡ Some result }
     {
-        self.moment
+        preparation(&self.header).unwrap()
     }
 
     /// The segments after the header.
