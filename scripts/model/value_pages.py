@@ -656,13 +656,15 @@ PAGES = {
     'partner': partner, 'blocks': blocks, 'calls': calls, 'reply': reply_of, 'contrl': contrl}
 
 
-def archives_note(count):
-    """How many archives were not asked, if there are any."""
-    return "<p class='note'>%d archives were not asked: older visits may stand there.</p>\n" % count if count else ''
+def archives_note(path, count):
+    """The archives that were not asked, if there are any, each with the link to what it reports."""
+    links = ["<a href='/archives/%d%s'>archive %d</a>" % (place, path, place) for place in range(1, count + 1)]
+    return "<p class='note'>%s</p>\n" % ' '.join(['Archives that were not asked:', *links]) if links else ''
 
 
 def page(office, kind, values):
-    """The page of a report, on what its key names; with how many archives were not asked where its text tells that too."""
+    """The page of a report, on what its key names; with the archives that were not asked where its text tells of them too."""
     text, archives = PAGES[kind](office, *values), len(office.register.archives)
     told_of = kind in ('container', 'visits') or kind == 'calls' and office.register.lists
-    return text[:-len(END)] + archives_note(archives if told_of else 0) + END
+    path = '/' + '/'.join([{'container': 'containers'}.get(kind, kind), *map(str, values)])
+    return text[:-len(END)] + archives_note(path, archives if told_of else 0) + END

@@ -115,36 +115,36 @@ module _ {S A : Type 0} (g : Ghosts S) (are : List Archive → A → Type 0) (ol
           number_beside g are old a asked code n p found is e (ap (λ last. nat_le 1 n && nat_le n last) closed ∙ zero_or_above n) tells content es stand
 
   -- no archive is told of
-  nothing_beside : (view : View) (told : Option (List ℕ)) (what : Option ReportContent) → AreAsked what → told ≡ option_map (shown view) what → told ≡ shown_beside 0 view what
-  nothing_beside Text told what asks is = is
-  nothing_beside Csv told what asks is = is
-  nothing_beside Page told what asks is = is ∙ sym (no_note (option_map (shown Page) what) (asked_end what asks))
-  nothing_beside Json told None asks is = is
-  nothing_beside Json told (Some (value.container report lists visits)) asks is = is ∙ json_of
+  nothing_beside : (asked : About) (view : View) (told : Option (List ℕ)) (what : Option ReportContent) → AreAsked what → told ≡ option_map (shown view) what → told ≡ shown_beside asked 0 view what
+  nothing_beside asked Text told what asks is = is
+  nothing_beside asked Csv told what asks is = is
+  nothing_beside asked Page told what asks is = is ∙ sym (no_note asked (option_map (shown Page) what) (asked_end what asks))
+  nothing_beside asked Json told None asks is = is
+  nothing_beside asked Json told (Some (value.container report lists visits)) asks is = is ∙ json_of
     where
       json_of : option_map (shown Json) (Some (value.container report lists visits)) ≡ json_beside 0 (Some (value.container report lists visits))
       unfolding shown
       json_of = refl
-  nothing_beside Json told (Some (value.visits report)) asks is = is ∙ json_of
+  nothing_beside asked Json told (Some (value.visits report)) asks is = is ∙ json_of
     where
       json_of : option_map (shown Json) (Some (value.visits report)) ≡ json_beside 0 (Some (value.visits report))
       unfolding shown
       json_of = refl
-  nothing_beside Json told (Some (value.calls lists)) asks is = is ∙ json_of
+  nothing_beside asked Json told (Some (value.calls lists)) asks is = is ∙ json_of
     where
       json_of : option_map (shown Json) (Some (value.calls lists)) ≡ json_beside 0 (Some (value.calls lists))
       unfolding shown
       json_of = refl
-  nothing_beside Json told (Some other) asks is = absurd asks
+  nothing_beside asked Json told (Some other) asks is = absurd asks
 
   -- what the desk reports, desk and archives report
   tells_alone : (asked : About) (view : View) (found : Option (List ℕ)) → IsSound g old → DeskTells g old (record { about = asked; view = view }) found → TellsBeside g are old a (record { about = asked; view = view }) found
   tells_alone (about.Visits container) view found sound told =
-      container_beside g are old a (record { about = about.Visits container; view = view }) found found 0 tt (λ list these. sym (ap length (empty list these))) told (nothing_beside view found)
+      container_beside g are old a (record { about = about.Visits container; view = view }) found found 0 tt (λ list these. sym (ap length (empty list these))) told (nothing_beside (about.Visits container) view found)
   tells_alone (about.Container container) view found sound told =
-      container_beside g are old a (record { about = about.Container container; view = view }) found found 0 tt (λ list these. sym (ap length (empty list these))) told (nothing_beside view found)
+      container_beside g are old a (record { about = about.Container container; view = view }) found found 0 tt (λ list these. sym (ap length (empty list these))) told (nothing_beside (about.Container container) view found)
   tells_alone about.Calls view found sound told =
-      calls_beside g are old a view found found false 0 (λ e list these name. ap (λ l. lines_away l name) (empty list these)) (λ e list these. let never : false ≡ true = e in absurd cc) (λ list these. refl) told (nothing_beside view found)
+      calls_beside g are old a view found found false 0 (λ e list these name. ap (λ l. lines_away l name) (empty list these)) (λ e list these. let never : false ≡ true = e in absurd cc) (λ list these. refl) told (nothing_beside about.Calls view found)
   tells_alone (about.List call side) view found sound told =
       list_beside g are old a old (record { about = about.List call side; view = view }) (call_content call) side found (refl, refl) sound (looks_nowhere g old)
       (λ list content es these stands. away_none list stands.away content es stands.own (empty list these) stands.lists (list_name (call_content call) side)) told
@@ -161,7 +161,7 @@ module _ {S A : Type 0} (g : Ghosts S) (are : List Archive → A → Type 0) (ol
       number_alone (record { about = about.Ticket code n; view = view }) (string_bytes code) n found (refl, refl)
       (λ rows terminal what is none. is view ∙ ap (λ o. option_map (shown view) (ticket_of terminal.visits rows (string_bytes code) n o)) none) told
   tells_alone (about.Expected container) view found sound told =
-      expected_beside g are old a (record { about = about.Expected container; view = view }) found found 0 tt (λ list these. sym (ap length (empty list these))) told (λ page ended same. same ∙ sym (no_note page ended))
+      expected_beside g are old a (record { about = about.Expected container; view = view }) found found 0 tt (λ list these. sym (ap length (empty list these))) told (λ page ended same. same ∙ sym (no_note (about.Expected container) page ended))
   tells_alone (about.Find typed) view found sound told = here_beside g are old a (record { about = about.Find typed; view = view }) found tt told
   tells_alone about.Start view found sound told = here_beside g are old a (record { about = about.Start; view = view }) found tt told
   tells_alone other view found sound told = neither_beside g are old a (record { about = other; view = view }) found tt told

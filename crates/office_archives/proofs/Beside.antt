@@ -192,12 +192,12 @@ module _ {S A : Type 0} (g : Ghosts S) (are : List Archive → A → Type 0) (ol
       (filled_neither s.away (content_after content es) (Mine content es stand) s.rows asked found is (told_here content es stand asked found told))
 
   pub container_beside : (asked : Query) (told found : Option (List ℕ)) (count : ℕ) → IsOfContainer asked.about → ((list : List Archive) → are list a → count ≡ length list) → DeskTells g old asked told
-      → ((what : Option ReportContent) → AreAsked what → told ≡ option_map (shown asked.view) what → found ≡ shown_beside count asked.view what) → TellsBeside g are old a asked found
+      → ((what : Option ReportContent) → AreAsked what → told ≡ option_map (shown asked.view) what → found ≡ shown_beside asked.about count asked.view what) → TellsBeside g are old a asked found
   container_beside asked told found count is counted tells same content es stand =
       let s = stand.stands in
       let here = told_here content es stand asked told tells in
       subst (TellsTogether content es stand.list s.archived s.whole asked)
-      (ap (λ k. shown_beside k asked.view here.0) (sym (counted stand.list stand.these)) ∙ sym (same here.0 (container_asked _ _ _ asked.about here.0 is here.1) here.2))
+      (ap (λ k. shown_beside asked.about k asked.view here.0) (sym (counted stand.list stand.these)) ∙ sym (same here.0 (container_asked _ _ _ asked.about here.0 is here.1) here.2))
       (container_told content es stand.list s.archived s.own s.whole s.rows s.parts s.is_own asked.about asked.view here.0 s.hold is (filled_here content es stand asked.about here.0 is here.1))
 
   -- the open lines that name a container
@@ -207,7 +207,7 @@ module _ {S A : Type 0} (g : Ghosts S) (are : List Archive → A → Type 0) (ol
 
   expected_told : (content : SetupContent) (es : List Event) (stand : StandTogether g are content es old a) (asked : About) (view : View) (told found : Option (List ℕ)) (count : ℕ) → IsOfExpected asked → count ≡ length stand.list
       → Shows (TellsAbout (content_after content es) (without_lists stand.stands.away (Mine content es stand)) (rows_without_lists stand.stands.away stand.stands.rows) asked) view told
-      → ((page : Option (List ℕ)) → AreEnded page → told ≡ page → found ≡ option_map (with_note count) page) → TogetherTells content es stand.list stand.stands.archived stand.stands.whole asked view found
+      → ((page : Option (List ℕ)) → AreEnded page → told ≡ page → found ≡ option_map (with_note asked count) page) → TogetherTells content es stand.list stand.stands.archived stand.stands.whole asked view found
   expected_told content es stand (about.Expected container) view told found count is counted here makes =
       let s = stand.stands in
       let mine = Mine content es stand in
@@ -215,11 +215,11 @@ module _ {S A : Type 0} (g : Ghosts S) (are : List Archive → A → Type 0) (ol
       let page : told ≡ Some (expected_page container (open_lines mine.lines container)) =
       here.2 ∙ ap (option_map (shown view)) here.1 ∙ ap Some (expected_shown view container (open_lines (without_lists s.away mine).lines container)) ∙ ap (λ lists. Some (expected_page container lists)) lines in
       makes (Some (expected_page container (open_lines mine.lines container))) (expected_end container (open_lines mine.lines container)) page
-      ∙ ap (λ n. Some (with_note n (expected_page container (open_lines mine.lines container)))) counted
+      ∙ ap (λ n. Some (with_note (about.Expected container) n (expected_page container (open_lines mine.lines container)))) counted
   expected_told content es stand other view told found count is counted here makes = absurd is
 
   pub expected_beside : (asked : Query) (told found : Option (List ℕ)) (count : ℕ) → IsOfExpected asked.about → ((list : List Archive) → are list a → count ≡ length list) → DeskTells g old asked told
-      → ((page : Option (List ℕ)) → AreEnded page → told ≡ page → found ≡ option_map (with_note count) page) → TellsBeside g are old a asked found
+      → ((page : Option (List ℕ)) → AreEnded page → told ≡ page → found ≡ option_map (with_note asked.about count) page) → TellsBeside g are old a asked found
   expected_beside asked told found count is counted tells makes content es stand =
       expected_told content es stand asked.about asked.view told found count is (counted stand.list stand.these) (told_here content es stand asked told tells) makes
 
@@ -265,7 +265,7 @@ module _ {S A : Type 0} (g : Ghosts S) (are : List Archive → A → Type 0) (ol
   -- of lists those that are not away, and how many archives there are, if lists were put away
   pub calls_beside : (view : View) (told found : Option (List ℕ)) (put_away : Bool) (count : ℕ) → (put_away ≡ false → (list : List Archive) → are list a → (name : ListName) → lines_away list name ≡ None) → (put_away ≡ true → (list : List Archive) → are list a → HasListAway list)
       → ((list : List Archive) → are list a → count ≡ archives_with_lists list put_away) → DeskTells g old (record { about = about.Calls; view = view }) told
-      → ((what : Option ReportContent) → AreAsked what → told ≡ option_map (shown view) what → found ≡ shown_beside count view what) → TellsBeside g are old a (record { about = about.Calls; view = view }) found
+      → ((what : Option ReportContent) → AreAsked what → told ≡ option_map (shown view) what → found ≡ shown_beside about.Calls count view what) → TellsBeside g are old a (record { about = about.Calls; view = view }) found
   calls_beside view told found put_away count none some counted tells same content es stand =
       let s = stand.stands in
       let here = told_here content es stand (record { about = about.Calls; view = view }) told tells in
@@ -275,7 +275,7 @@ module _ {S A : Type 0} (g : Ghosts S) (are : List Archive → A → Type 0) (ol
         put_away = put_away;
         none = λ e. none e stand.list stand.these;
         some = λ e. some e stand.list stand.these;
-        told = same here.0 (subst AreAsked (sym here.1) tt) here.2 ∙ ap (λ k. shown_beside k view here.0) (counted stand.list stand.these) ∙ ap (shown_beside (archives_with_lists stand.list put_away) view) here.1;
+        told = same here.0 (subst AreAsked (sym here.1) tt) here.2 ∙ ap (λ k. shown_beside about.Calls k view here.0) (counted stand.list stand.these) ∙ ap (shown_beside about.Calls (archives_with_lists stand.list put_away) view) here.1;
       }
 
   -- a list that is not away, by a desk that was looked at

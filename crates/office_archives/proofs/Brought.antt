@@ -331,7 +331,7 @@ none_there away (name ∷ names) none = (none name, none_there away names none)
 
 -- what is told of a container with so many archives
 container_own : (list : List Archive) (place : ℕ) (asked : Query) (own found : Option (List ℕ)) → IsOfContainer asked.about → IsReportIn list place asked own
-    → ((what : Option ReportContent) → AreAsked what → own ≡ option_map (shown asked.view) what → found ≡ shown_beside (place - 1) asked.view what) → TellsOwnContainer list place asked found
+    → ((what : Option ReportContent) → AreAsked what → own ≡ option_map (shown asked.view) what → found ≡ shown_beside asked.about (place - 1) asked.view what) → TellsOwnContainer list place asked found
 container_own list place asked own found is told same archive there =
     let it = told archive there in
     (it.0, it.1, same it.0 (container_asked it.1.content it.1.terminal archive.rows asked.about it.0 is it.1.tells) it.2)
@@ -342,7 +342,7 @@ container_by content list place (about.Container container) asked found is told 
 container_by content list place other asked found is told = absurd is
 
 pub container_as : (content : SetupContent) (list : List Archive) (place : ℕ) (asked : Query) (own found : Option (List ℕ)) → IsOfContainer asked.about → IsReportIn list place asked own
-    → ((what : Option ReportContent) → AreAsked what → own ≡ option_map (shown asked.view) what → found ≡ shown_beside (place - 1) asked.view what) → TellsAsStore content list place asked found
+    → ((what : Option ReportContent) → AreAsked what → own ≡ option_map (shown asked.view) what → found ≡ shown_beside asked.about (place - 1) asked.view what) → TellsAsStore content list place asked found
 container_as content list place asked own found is told same = container_by content list place asked.about asked found is (container_own list place asked own found is told same)
 
 -- the code and the number are those of the query, and this is who has the code

@@ -167,10 +167,10 @@ module _ (content : SetupContent) (es : List Event) (archives : List Archive) (a
   -- ---- containers
 
   pub container_told : (asked : About) (view : View) (what : Option ReportContent) → Hold archives archived → IsOfContainer asked → TellsAbout now mine rows asked what
-      → TogetherTells content es archives archived whole asked view (shown_beside (length archives) view what)
+      → TogetherTells content es archives archived whole asked view (shown_beside asked (length archives) view what)
   container_told (about.Visits container) view what hold is told = (what, visits_told content es archives archived own whole container what are hold told, refl)
   container_told (about.Container container) view what hold is told =
-      λ oldest. ap (shown_beside (length archives) view) (containers_told content es archived own whole container what are oldest told)
+      λ oldest. ap (shown_beside (about.Container container) (length archives) view) (containers_told content es archived own whole container what are oldest told)
   container_told other view what hold is told = absurd is
 
   -- ---- numbers beyond

@@ -50,21 +50,21 @@ json_beside count (Some (value.visits report)) = option_map compact_text (with_m
 json_beside count (Some (value.calls lists)) = option_map compact_text (with_member count (Some (calls_object lists)))
 json_beside count (Some other) = Some (shown Json other)
 
--- a page with a note of how many archives there are before its end, if there are any
-abbrev pub with_note : (count : ℕ) → (page : List ℕ) → List ℕ
-with_note count page = take (length page - length foot) page ++ archives_note count ++ foot
+-- a page that tells of that, with a note of the archives before its end, if there are any
+abbrev pub with_note : (asked : About) → (count : ℕ) → (page : List ℕ) → List ℕ
+with_note asked count page = take (length page - length foot) page ++ archives_note asked count ++ foot
 
 -- a page, if there is one, ends as pages do
 abbrev pub AreEnded : Option (List ℕ) → Type 0
 AreEnded None = Unit {0}
 AreEnded (Some page) = (body : List ℕ) × (page ≡ body ++ foot)
 
--- what the store tells, shown so, with how many archives there are, if there are any; CSV does not tell it
-abbrev pub shown_beside : (count : ℕ) → View → Option ReportContent → Option (List ℕ)
-shown_beside count Text told = with_archives count (option_map (shown Text) told)
-shown_beside count Json told = json_beside count told
-shown_beside count Csv told = option_map (shown Csv) told
-shown_beside count Page told = option_map (with_note count) (option_map (shown Page) told)
+-- what the store tells of that, shown so, with how many archives there are, if there are any; CSV does not tell it
+abbrev pub shown_beside : (asked : About) → (count : ℕ) → View → Option ReportContent → Option (List ℕ)
+shown_beside asked count Text told = with_archives count (option_map (shown Text) told)
+shown_beside asked count Json told = json_beside count told
+shown_beside asked count Csv told = option_map (shown Csv) told
+shown_beside asked count Page told = option_map (with_note asked count) (option_map (shown Page) told)
 
 -- it is asked for a container's visits, or where it is
 abbrev pub IsOfContainer : About → Type 0
@@ -96,7 +96,7 @@ pub record TellsOwnCalls (archives : List Archive) (lines : Lines) (view : View)
   pub none : put_away ≡ false → (list : ListName) → lines_away archives list ≡ None
   pub some : put_away ≡ true → HasListAway archives
   pub told : found
-      ≡ shown_beside (archives_with_lists archives put_away) view
+      ≡ shown_beside about.Calls (archives_with_lists archives put_away) view
       (Some (value.calls (lists_in (finite_map.entries (own_lines away lines)))))
 
 -- ---- what the store has itself
@@ -192,15 +192,15 @@ abbrev pub TogetherTells : SetupContent → List Event → List Archive → Arch
 TogetherTells content es archives archived whole (about.Visits container) view found =
     (own : Option ReportContent)
     × TellsWhatStays (content_after content es) archives archived.stays (machine_after content es).terminal container own
-    × (found ≡ shown_beside (length archives) view own)
+    × (found ≡ shown_beside (about.Visits container) (length archives) view own)
 TogetherTells content es archives archived whole (about.Container container) view found =
     GoOldestFirst archived.stays whole.visits
     → found
-    ≡ shown_beside (length archives) view
+    ≡ shown_beside (about.Container container) (length archives) view
     (container_if_there (content_after content es) archived.stays (machine_after content es).terminal container)
 TogetherTells content es archives archived whole (about.Expected container) view found =
     found
-    ≡ Some (with_note (length archives)
+    ≡ Some (with_note (about.Expected container) (length archives)
     (expected_page container (open_lines (machine_after content es).terminal.lines container)))
 TogetherTells content es archives archived whole (about.Find typed) view found =
     TellsOwnFound (content_after content es) archives archived.stays (machine_after content es).terminal (string_bytes typed)
@@ -233,7 +233,7 @@ abbrev pub TellsOwnContainer : List Archive → (place : ℕ) → Query → Opti
 TellsOwnContainer archives place asked found =
     (archive : Archive) → archive_at archives place ≡ Some archive →
     (own : Option ReportContent) × IsValueOf archive.rows asked.about own
-    × (found ≡ shown_beside (place - 1) asked.view own)
+    × (found ≡ shown_beside asked.about (place - 1) asked.view own)
 
 -- Of a number, of the partner that has the code: what the archive's own rows tell, if it was not closed before; else what its
 -- archive tells. Numbers are from 1. If nobody has the code, what the archive's own rows tell.

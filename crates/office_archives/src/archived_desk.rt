@@ -196,7 +196,7 @@ impl<S: Alter + Drop, A: Archives + Drop> ArchivedDesk<S, A> {
         ensures last_fault { self.new.desk.last_fault ≡ self.old.desk.last_fault }
     {
         let told = self.desk.find_report(alloc, query)?;
-        Ok(with_archives(alloc, query.view, told, self.archives.count())?)
+        Ok(with_archives(alloc, query, told, self.archives.count())?)
     }
 
     /// The open lines that name a container, and how many archives were not searched.
@@ -212,7 +212,7 @@ impl<S: Alter + Drop, A: Archives + Drop> ArchivedDesk<S, A> {
         ensures last_fault { self.new.desk.last_fault ≡ self.old.desk.last_fault }
     {
         let told = self.desk.find_report(alloc, query)?;
-        Ok(with_note(alloc, told, self.archives.count())?)
+        Ok(with_note(alloc, &query.about, told, self.archives.count())?)
     }
 
     /// What the store has itself: what a text finds, and what the start page tells.
@@ -246,7 +246,7 @@ impl<S: Alter + Drop, A: Archives + Drop> ArchivedDesk<S, A> {
         } else {
             0
         };
-        Ok(with_archives(alloc, query.view, told, count)?)
+        Ok(with_archives(alloc, query, told, count)?)
     }
 
     /// What the list of a call says, or what is left of it: if it is away, by its lines as they were put away.
@@ -461,7 +461,7 @@ fn tell_container<A: Archives>(
 {
     let told = archives.report(alloc, place, query)?;
     let before = usize::from(place).saturating_sub(1);
-    Ok(with_archives(alloc, query.view, told, before)?)
+    Ok(with_archives(alloc, query, told, before)?)
 }
 
 /// What is reported of a number: by the archive before that place which closed it, or by the archive at that place.

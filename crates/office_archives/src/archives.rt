@@ -204,36 +204,39 @@ fn closed_reply<A: Archives>(
 }
 
 /// What the store reports of a container, its visits or its lists, and how many archives it has, if it has any, which were not
-/// looked at: as text in a last line `ARCHIVES k`, as JSON in a member `archives`, as a page in a note; CSV doesn't tell it.
+/// looked at: as text in a last line `ARCHIVES k`, as JSON in a member `archives`, as a page in a note, from which each
+/// leads to what it reports; CSV doesn't tell it.
 pub(crate) fn with_archives(
     alloc: Global,
-    view: View,
+    query: &Query,
     told: Option<String>,
     count: usize,
 ) -> Result<Option<String>, AllocError>
     ensures { IfOk result (λ found. (what : Option ReportContent) → AreAsked what →
-        option_map string_bytes told ≡ option_map (shown view) what →
-        option_map string_bytes found ≡ shown_beside count view what) }
+        option_map string_bytes told ≡ option_map (shown query.now.view) what →
+        option_map string_bytes found ≡ shown_beside query.now.about count query.now.view what) }
 {
-    match view {
+    match query.view {
         View::Text => with_line(alloc, told, count),
         View::Json => with_member(alloc, told, count),
         View::Csv => Ok(told),
-        View::Page => with_note(alloc, told, count),
+        View::Page => with_note(alloc, &query.about, told, count),
     }
 }
 
-/// The page, with that note before its end, if there are any.
+/// The page that tells of that, with that note before its end, if there are any.
 pub(crate) fn with_note(
     alloc: Global,
+    about: &About,
     told: Option<String>,
     count: usize,
 ) -> Result<Option<String>, AllocError>
     ensures { IfOk result (λ found. (what : Option (List ℕ)) → AreEnded what →
-        option_map string_bytes told ≡ what → option_map string_bytes found ≡ option_map (with_note count) what) }
+        option_map string_bytes told ≡ what → option_map string_bytes found
+        ≡ option_map (with_note about.now count) what) }
 {
     match told {
-        Some(page) => Ok(Some(with_archives_note(alloc, page.as_str(), count)?)),
+        Some(page) => Ok(Some(with_archives_note(alloc, page.as_str(), about, count)?)),
         None => Ok(None),
     }
 }

@@ -1,7 +1,7 @@
 use Rattle.std.proofs.{Common.{◌≡◌, List, option_map, string_bytes, sym, ap, subst, ◌∙◌}, lemmas.Result.err_from_is_err_and}
 use Rattle.office_parts.specs.Archives.{Archive}
 use Rattle.office_desk.specs.Reports.{DeskTells}
-use Rattle.office_archives.{specs.{Telling.archives_with_lists, Together.TellsBeside}, proofs.{Beside.calls_beside, Together.looks_on}}
+use Rattle.office_archives.{specs.{Telling.{archives_with_lists, shown_beside}, Together.TellsBeside}, proofs.{Beside.calls_beside, Together.looks_on}}
 use Rattle.office_archives.proofs.archived_desk.ArchivedDesk.find_calls.Goals.{then-has_lists, else-has_lists}
 use Rattle.office_archives.proofs.archived_desk.ArchivedDesk.find_calls.Goals as goal
 
@@ -18,7 +18,8 @@ returns-clause-told g c = λ sound whole.
     let view = c.args.query.now.view in
     subst (λ q. TellsBeside g.S.Store g.A.Archives.are self.desk self.archives (record { about = q; view = view }) found) (sym c.requires)
     (calls_beside g.S.Store g.A.Archives.are self.desk self.archives view told found c.has_lists.result c.if-has_lists.count c.has_lists.ensures.none c.has_lists.ensures.some counted
-    (subst (λ q. DeskTells g.S.Store self.desk (record { about = q; view = view }) told) c.requires (c.in_ok-told.ensures.told sound)) c.in_ok-with_archives.ensures)
+    (subst (λ q. DeskTells g.S.Store self.desk (record { about = q; view = view }) told) c.requires (c.in_ok-told.ensures.told sound))
+    (λ what asks shows. c.in_ok-with_archives.ensures what asks shows ∙ ap (λ q. shown_beside q c.if-has_lists.count view what) c.requires))
 
 pub returns-clause-looks : goal.returns-clause-looks
 returns-clause-looks g c =
