@@ -110,13 +110,6 @@ impl<S: Alter> Desk<S> {
         &self.setup
     }
 
-    /// The terminal's name.
-    pub fn terminal(&self) -> &str
-        ensures { result.now ≡ string_bytes self.now.setup.terminal }
-    {
-        self.setup.terminal.as_str()
-    }
-
     /// The connection to its tables.
     pub fn into_connection(self) -> Connection<S>
         ensures { result ≡ self.conn }
