@@ -1,3 +1,4 @@
+mod Ends
 mod Growing
 pub mod Plain
 pub mod Sides

@@ -1,5 +1,5 @@
 //! The archives that were not asked, on a page: each leads to what it reports.
-ghost use Rattle.std.specs.Prelude.{◌≡◌, ◌++◌, ℕ, List, IfOk, OnOk, string_bytes};
+ghost use Rattle.std.specs.Prelude.{◌≡◌, ◌≢◌, ◌++◌, ℕ, List, IfOk, MatchOption, OnOk, string_bytes};
 ghost use Rattle.office_pages.specs.{Archives.{archive_link, archive_links, archives_note, calls_link, container_link, note_line}, Fixed.foot};
 
 use crate::layout::foot;
@@ -20,10 +20,23 @@ pub fn with_archives(
     ensures { IfOk result (λ text. (body : List ℕ) → page.now ≡ body ++ foot →
         string_bytes text ≡ body ++ archives_note about.now count ++ foot) }
 {
-    let Some(body) = page.strip_suffix(foot()) else {
+    match body_of(page) {
+        Some(body) => noted(alloc, body, about, count),
         // It is no page.
-        return String::from_str(alloc, page);
-    };
+        None => String::from_str(alloc, page),
+    }
+}
+
+/// A page without its end.
+fn body_of(page: &str) -> Option<&str>
+    ensures { MatchOption result ((body : List ℕ) → page.now ≢ body ++ foot) (λ body. page.now ≡ body.now ++ foot) }
+{
+    page.strip_suffix(foot())
+}
+
+fn noted(alloc: Global, body: &str, about: &About, count: usize) -> Result<String, AllocError>
+    ensures { IfOk result (λ text. string_bytes text ≡ body.now ++ archives_note about.now count ++ foot) }
+{
     let mut text = String::from_str(alloc, body)?;
     push_note(alloc, &mut text, about, count)?;
     text.push_str(foot())?;
