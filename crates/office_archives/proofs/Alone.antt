@@ -116,25 +116,14 @@ module _ {S A : Type 0} (g : Ghosts S) (are : List Archive → A → Type 0) (ol
 
   -- no archive is told of
   nothing_beside : (asked : About) (view : View) (told : Option (List ℕ)) (what : Option ReportContent) → AreAsked what → told ≡ option_map (shown view) what → told ≡ shown_beside asked 0 view what
+  unfolding shown
   nothing_beside asked Text told what asks is = is
   nothing_beside asked Csv told what asks is = is
   nothing_beside asked Page told what asks is = is ∙ sym (no_note asked (option_map (shown Page) what) (asked_end what asks))
   nothing_beside asked Json told None asks is = is
-  nothing_beside asked Json told (Some (value.container report lists visits)) asks is = is ∙ json_of
-    where
-      json_of : option_map (shown Json) (Some (value.container report lists visits)) ≡ json_beside 0 (Some (value.container report lists visits))
-      unfolding shown
-      json_of = refl
-  nothing_beside asked Json told (Some (value.visits report)) asks is = is ∙ json_of
-    where
-      json_of : option_map (shown Json) (Some (value.visits report)) ≡ json_beside 0 (Some (value.visits report))
-      unfolding shown
-      json_of = refl
-  nothing_beside asked Json told (Some (value.calls lists)) asks is = is ∙ json_of
-    where
-      json_of : option_map (shown Json) (Some (value.calls lists)) ≡ json_beside 0 (Some (value.calls lists))
-      unfolding shown
-      json_of = refl
+  nothing_beside asked Json told (Some (value.container report lists visits)) asks is = is
+  nothing_beside asked Json told (Some (value.visits report)) asks is = is
+  nothing_beside asked Json told (Some (value.calls lists)) asks is = is
   nothing_beside asked Json told (Some other) asks is = absurd asks
 
   -- what the desk reports, desk and archives report
