@@ -17,7 +17,7 @@ use Rattle.office_report_data.specs.Told.{ReportContent, shown}
 use Rattle.office_loading.specs.Closed.{last_closed}
 use Rattle.office_history.specs.After.{machine_after}
 use Rattle.office_rows.specs.Rows.{Rows}
-use Rattle.office_archives.specs.{Standing.{IsBeyond, NamesNoneAway, StandsBeside}, Telling.{AreAsked, IsOfNumber, TellsTogether, json_beside, shown_beside}}
+use Rattle.office_archives.specs.{Standing.{IsBeyond, NamesNoneAway, StandsBeside}, Telling.{AreAsked, IsOfNumber, TellsTogether, shown_beside}}
 use Rattle.office_archives.{specs.Together.{LeadsTogether, LooksTogether, ShowsBeside, TellsBeside}, proofs.{Noted.{asked_end, no_note}, Together.looks_on}}
 use Rattle.office_archives.proofs.Beside.{calls_beside, container_beside, expected_beside, here_beside, list_beside, neither_beside, nobody_beside, number_beside, tells_so}
 use Rattle.office_archives.proofs.Standing.{beyond_answered, beyond_left}
