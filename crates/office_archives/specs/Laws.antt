@@ -1,5 +1,5 @@
 -- The laws of reports of what was put away.
-use Rattle.std.specs.Prelude.{◌≡◌, ℕ, ◌≤◌, nat_lt, Bool, true, false, ◌||◌, List, [], ◌∷◌, ◌++◌, Contains, filter, Option, Some, option_map, string_bytes}
+use Rattle.std.specs.Prelude.{◌≡◌, ℕ, ◌≤◌, nat_lt, Bool, true, false, ◌||◌, List, [], ◌∷◌, ◌++◌, Contains, filter, Option, Some, string_bytes}
 use Rattle.std.specs.{declared.alloc.Global.Global, declared.string.String.String}
 use Rattle.box6346.specs.declared.box_number.BoxNumber.{BoxNumber}
 use Rattle.partner_core.specs.Deliveries.{run}

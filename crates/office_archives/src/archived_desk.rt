@@ -1,17 +1,15 @@
-ghost use Rattle.std.specs.{Option.option_map, Prelude.{◌≡◌, ◌≤◌, ◌&&◌, ◌↔◌, ℕ, nat_le, [], IfErr, IfOk, List, OnOk, Some, false, string_bytes, true}};
+ghost use Rattle.std.specs.{Option.option_map, Prelude.{◌≡◌, ◌&&◌, ℕ, nat_le, [], IfErr, IfOk, List, OnOk, Some, false, string_bytes}};
 ghost use Rattle.std.specs.Result.{result_map_both};
 ghost use Rattle.edi_messages.specs.Owned.{call_content};
 ghost use Rattle.edi_syntax.specs.{Interchange.{interchange_of, segments_in}, Envelope.header_of};
-ghost use Rattle.office_admission.specs.{Admission.number_in, Outcomes.IsAdmitted, Setups.{SetupContent, setup_content}};
-ghost use Rattle.office_archives.specs.{Causes.{IsDeserved, IsDeservedHere}, Keeping.{IsClosedBefore, IsNotClosedBefore}};
-ghost use Rattle.office_archives.specs.Telling.{IsOfContainer, IsOfExpected, IsOfList, IsOfNumber, IsOfWhatIsHere, IsPlace, TellsAsStore};
-ghost use Rattle.office_archives.specs.Together.{EnrolsTogether, LeadsTogether, LooksTogether, OnlyLooksTogether, StandTogether, TellsBeside, TellsOfOne};
+ghost use Rattle.office_admission.specs.{Admission.number_in, Outcomes.IsAdmitted};
+ghost use Rattle.office_archives.specs.Causes.{IsDeserved, IsDeservedHere};
+ghost use Rattle.office_archives.specs.Telling.{IsOfContainer, IsOfExpected, IsOfList, IsOfNumber, IsOfWhatIsHere};
+ghost use Rattle.office_archives.specs.Together.{EnrolsTogether, LeadsTogether, LooksTogether, OnlyLooksTogether, TellsBeside};
 ghost use Rattle.office_loading.specs.Closed.{last_closed};
 ghost use Rattle.office_desk.specs.{Calls.OnlyLooks, Desks.IsSound, Reports.{DeskTells, IsOpenFor, partner_called}};
-ghost use Rattle.office_history.specs.After.{content_after};
 ghost use Rattle.office_parts.specs.Archives.{Archive};
 ghost use Rattle.office_reports.specs.{Looking.{of_archive, report, texts_after}, declared.query.About.TheVariants.Calls};
-ghost use Rattle.office_replies.specs.Events.{Event};
 ghost use Rattle.office_tables.specs.declared.table_fault.TableFault.TheVariants.{Version};
 ghost use Rattle.sqlite.specs.{Held.state, State.HasCleanDisk};
 
@@ -20,6 +18,7 @@ use crate::archives::{
 };
 use crate::bringing::bring_back_named;
 use crate::lists_away::{lines_if_away, report_by_lines};
+use crate::of_archive::tell_of_archive;
 use edi_messages::Call;
 use edi_syntax::interchange_text;
 use office_admission::Admitted;
@@ -405,112 +404,5 @@ impl<S: Alter + Drop, A: Archives + Drop> Report for ArchivedDesk<S, A> {
         query: &Query,
     ) -> Result<Option<String>, NotNow> {
         self.answer_archive(alloc, place, query)
-    }
-}
-
-/// What the archive at a place reports for a query, as the store that it was: of a container also how many archives
-/// there were then, of a number that was closed before what that number's archive keeps. None if there is no such
-/// archive, or it reports nothing. No archive changes.
-fn tell_of_archive<S: Alter, A: Archives>(
-    alloc: Global,
-    desk: &Desk<S>,
-    archives: &mut A,
-    place: u16,
-    query: &Query,
-) -> Result<Option<String>, TableFault>
-    ensures told { A.is_sound archives.new → IfOk result (λ found.
-        TellsOfOne S.Store A.are desk.now archives.old place query.now (option_map string_bytes found)) }
-    ensures same { (list : List Archive) → A.are list archives.old → A.are list archives.new }
-{
-    if !has_place(archives, place) {
-        return Ok(None);
-    }
-    match &query.about {
-        About::Visits(_) | About::Container(_) => tell_container(alloc, archives, place, query),
-        About::Reply { partner, number } => {
-            tell_number(alloc, desk, archives, place, query, partner, *number)
-        }
-        About::Contrl { partner, number } => {
-            tell_number(alloc, desk, archives, place, query, partner, *number)
-        }
-        About::Ticket { partner, number } => {
-            tell_number(alloc, desk, archives, place, query, partner, *number)
-        }
-        _ => archives.report(alloc, place, query),
-    }
-}
-
-/// Whether there is an archive at a place, the first at 1.
-fn has_place<A: Archives>(archives: &A, place: u16) -> bool
-    ensures { (list : List Archive) → A.are list archives.now → (result ≡ true) ↔ IsPlace list place }
-{
-    1 <= place && usize::from(place) <= archives.count()
-}
-
-/// What the archive at a place reports of a container, and how many archives are before it: they were not searched.
-fn tell_container<A: Archives>(
-    alloc: Global,
-    archives: &mut A,
-    place: u16,
-    query: &Query,
-) -> Result<Option<String>, TableFault>
-    requires { IsOfContainer query.now.about }
-    ensures told { A.is_sound archives.new → IfOk result (λ found. (content : SetupContent) (list : List Archive) →
-        A.are list archives.old → TellsAsStore content list place query.now (option_map string_bytes found)) }
-    ensures same { (list : List Archive) → A.are list archives.old → A.are list archives.new }
-{
-    let told = archives.report(alloc, place, query)?;
-    let before = usize::from(place).saturating_sub(1);
-    Ok(with_archives(alloc, query, told, before)?)
-}
-
-/// What is reported of a number: by the archive before that place which closed it, or by the archive at that place.
-fn tell_number<S: Alter, A: Archives>(
-    alloc: Global,
-    desk: &Desk<S>,
-    archives: &mut A,
-    place: u16,
-    query: &Query,
-    code: &str,
-    number: u32,
-) -> Result<Option<String>, TableFault>
-    requires { IsOfNumber query.now.about code.now number }
-    ensures told { A.is_sound archives.new → IfOk result (λ found. (content : SetupContent) (es : List Event)
-        (stand : StandTogether S.Store A.are content es desk.now archives.old) →
-        TellsAsStore (content_after content es) stand.list place query.now (option_map string_bytes found)) }
-    ensures same { (list : List Archive) → A.are list archives.old → A.are list archives.new }
-{
-    let Some(partner) = partner_called(desk, code) else {
-        return archives.report(alloc, place, query);
-    };
-    if closed_before(desk, archives, place, partner, number) {
-        tell_closed(alloc, archives, query, code, partner, number)
-    } else {
-        archives.report(alloc, place, query)
-    }
-}
-
-/// Whether an archive before that place keeps the number of a partner with a code. Numbers are from 1.
-fn closed_before<S: Alter, A: Archives>(
-    desk: &Desk<S>,
-    archives: &A,
-    place: u16,
-    partner: u16,
-    number: u32,
-) -> bool
-    ensures before { result ≡ true → (code : List ℕ) → partner_called (setup_content desk.now.setup) code ≡ Some partner →
-        (content : SetupContent) (es : List Event) (stand : StandTogether S.Store A.are content es desk.now archives.now) →
-        IsClosedBefore stand.list place partner number }
-    ensures not_before { result ≡ false → 1 ≤ number →
-        (code : List ℕ) → partner_called (setup_content desk.now.setup) code ≡ Some partner →
-        (content : SetupContent) (es : List Event) (stand : StandTogether S.Store A.are content es desk.now archives.now) →
-        IsNotClosedBefore stand.list place partner number }
-{
-    if number == 0 || !desk.is_closed(partner, number) {
-        return false;
-    }
-    match archives.place_of(partner, number) {
-        Some(keeper) => keeper < place,
-        None => false,
     }
 }

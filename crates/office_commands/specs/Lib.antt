@@ -19,4 +19,3 @@ pub mod Whole
 pub mod Paths
 pub mod History
 pub mod Telling
-pub mod Noting

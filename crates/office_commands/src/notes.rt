@@ -125,9 +125,6 @@ pub(crate) struct Noted<'a, D, N> {
 }
 
 impl<'a, D: Report + Faults + Tallied, N: Notes> Noted<'a, D, N> {
-    ghost use Rattle.std.specs.Prelude.{◌≡◌};
-    ghost use Rattle.office_commands.specs.Noting.{IsAccountNoteOf, IsNoteOf};
-
     pub(crate) fn new(desk: D, notes: &'a N) -> Noted<'a, D, N>
         ensures { result.desk ≡ desk }
     {

@@ -61,12 +61,7 @@ pub fn serve_over<S: Start, A: Archives + Drop, M: ArchivesBeside<A>, N: Notes, 
 }
 
 /// Serves what a desk over the store at a path answers, whatever desk it is, and gives it back as it was left.
-pub fn serve_named<
-    D: Report + AddAccount + Faults + Tallied,
-    N: Notes,
-    W: Write,
-    E: Write,
->(
+pub fn serve_named<D: Report + AddAccount + Faults + Tallied, N: Notes, W: Write, E: Write>(
     rt: &HostRuntime,
     path: &str,
     desk: D,

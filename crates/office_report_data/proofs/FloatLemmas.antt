@@ -56,6 +56,7 @@ days_have_none : (entry : CivilMoment) (departure : Option Departure) → has_fl
 days_have_none entry departure = option_has_none _ departure (λ exit. integer_has_none _)
 
 pub visit_has_no_float : (setup : SetupContent) (visit : VisitContent) → has_float (visit_data setup visit) ≡ false
+unfolding visit_data
 visit_has_no_float setup visit =
     rw (text_has_none visit.booking) (rw (days_have_none visit.arrival.moment visit.departure)
     (rw (option_has_none passage_data (departure_by setup visit.departure) (λ passage. refl)) (rw (number_has_none visit.kilos) refl)))
@@ -64,6 +65,7 @@ pub partner_has_no_float : (row : PartnerRowContent) → has_float (partner_data
 partner_has_no_float row = rw (option_has_none waiting_data row.waiting (λ waiting. refl)) refl
 
 pub block_has_no_float : (row : BlockRow) → has_float (block_data row) ≡ false
+unfolding block_data
 block_has_no_float row = refl
 
 pub opened_has_no_float : (visit : VisitContent) → has_float (opened_data visit) ≡ false

@@ -1,14 +1,15 @@
 -- The report on the blocks of the yard as JSON and as CSV.
 use Rattle.std.specs.Prelude.{ℕ, List, [], ◌∷◌, codes, decimal, encode_utf8_all}
-use Rattle.serde_json.specs.Data.{Data, string, number, unsigned, object, member, no_members}
-use Rattle.office_reports.specs.{Blocks.{BlocksContent, cell_count, used_cells}, declared.blocks.BlockRow.BlockRow}
+use Rattle.serde_json.specs.Data.{Data, Members, string, number, unsigned, object, member, no_members, put}
+use Rattle.yard_core.specs.declared.plan.Block.{Block}
+use Rattle.office_reports.specs.{Blocks.{BlocksContent, cell_count, used_cells}, declared.blocks.{BlockRow.BlockRow, BlockUse.BlockUse}}
 use Rattle.office_report_data.specs.{Rows.rows_object, Tables.table_text}
 
 -- the letter of a block as text
 abbrev pub letter_text : ℕ → List ℕ
 letter_text letter = encode_utf8_all (letter ∷ [])
 
-abbrev pub block_data : BlockRow → Data
+unfoldable pub block_data : BlockRow → Data
 block_data row =
     object (member (codes "bays") (number (unsigned row.block.bays)) (member (codes "block") (string (letter_text row.block.letter))
     (member (codes "cells") (number (unsigned (cell_count row.block)))
@@ -35,3 +36,19 @@ block_fields row =
 
 abbrev pub blocks_table : BlocksContent → List ℕ
 blocks_table report = table_text blocks_header block_fields report.rows
+
+-- ---- as the code has it
+
+-- an object's members, with these among them: the letter of a block, and its size
+unfoldable pub with_size : Block → Members → Members
+with_size block members =
+    put (codes "tiers") (number (unsigned block.tiers)) (put (codes "rows") (number (unsigned block.rows))
+    (put (codes "cells") (number (unsigned (cell_count block))) (put (codes "bays") (number (unsigned block.bays))
+    (put (codes "block") (string (letter_text block.letter)) members))))
+
+-- with these among them: how it is used
+unfoldable pub with_use : BlockUse → Members → Members
+with_use used members =
+    put (codes "used") (number (unsigned (used_cells used))) (put (codes "under") (number (unsigned used.under))
+    (put (codes "twenties") (number (unsigned used.twenties)) (put (codes "highest") (number (unsigned used.highest))
+    (put (codes "forties") (number (unsigned used.forties)) members))))

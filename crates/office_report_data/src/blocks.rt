@@ -1,17 +1,18 @@
 //! The report on the blocks of the yard as JSON and as CSV.
-ghost use Rattle.office_report_data.specs.Blocks.{block_data, block_fields, blocks_data, blocks_header, blocks_table, letter_text};
+ghost use Rattle.office_report_data.specs.Blocks.{block_data, block_fields, blocks_data, blocks_header, blocks_table, with_size, with_use};
 ghost use Rattle.office_report_data.specs.Tables.{HasGiven, IsBetweenRecords, record_text, written_rows};
 ghost use Rattle.office_reports.specs.Blocks.{blocks_content, used_cells};
-ghost use Rattle.serde_json.specs.{View.{items_of, view}, Written.{compact_text, items_text}};
+ghost use Rattle.serde_json.specs.{View.{items_of, members_view, view}, Written.{compact_text, items_text}};
 ghost use Rattle.std.specs.{List.flat_map, Prelude.{◌≡◌, ◌++◌, false, map, string_bytes, IfOk, IfSome, OnOk}};
 
-use crate::rows::{push_back, push_row, rows_front};
+use crate::rows::{push_back, push_row, put_text, rows_front};
 use crate::tables::{push_record, table_text, table_under};
 use csv::Writer;
 use office_replies::text_of;
 use office_reports::{BlockRow, BlockUse, BlocksReport, cell_count};
-use serde_json::{Value, json};
+use serde_json::{Map, Value, put};
 use std::alloc::{AllocError, Global};
+use yard_core::Block;
 
 /// The report as JSON: an object of `rows` in the order of the plan, each of `bays`, the `block`'s letter, how many
 /// twenties it holds (`cells`), how many `forties` are in it, the `highest` tier in use, `rows`, `tiers`, how many
@@ -48,26 +49,49 @@ fn block_text(alloc: Global, row: BlockRow) -> Result<String, AllocError>
     value.to_string(alloc)
 }
 
+#[tactic(auto, using(crate::proofs::MemberLemmas::block_whole))]
 fn block_value(alloc: Global, row: BlockRow) -> Result<Value, AllocError>
     ensures { IfOk result (λ value. view value ≡ block_data row) }
 {
-    let letter = text_of(alloc, &[row.block.letter])?;
-    let Some(used) = used_cells(row.used) else {
+    let mut members = Map::new(alloc);
+    put_size(alloc, &mut members, row.block)?;
+    put_use(alloc, &mut members, row.used)?;
+    Ok(Value::Object(members))
+}
+
+/// Puts the letter of a block, and its size, among the members of an object.
+#[tactic(auto, unfolding(crate::specs::Blocks::with_size))]
+fn put_size(alloc: Global, members: &mut Map<String, Value>, block: Block) -> Result<(), AllocError>
+    ensures { OnOk result (members_view members.new.entries
+        ≡ with_size block (members_view members.old.entries)) }
+{
+    let letter = text_of(alloc, &[block.letter])?;
+    put_text(alloc, members, "block", letter.as_str())?;
+    put(members, alloc, "bays", Value::from(block.bays))?;
+    put(members, alloc, "cells", Value::from(cell_count(block)))?;
+    put(members, alloc, "rows", Value::from(block.rows))?;
+    put(members, alloc, "tiers", Value::from(block.tiers))
+}
+
+/// Puts how a block is used among the members of an object.
+#[tactic(auto, unfolding(crate::specs::Blocks::with_use))]
+fn put_use(
+    alloc: Global,
+    members: &mut Map<String, Value>,
+    used: BlockUse,
+) -> Result<(), AllocError>
+    ensures { OnOk result (members_view members.new.entries
+        ≡ with_use used (members_view members.old.entries)) }
+{
+    let Some(cells) = used_cells(used) else {
         // No memory holds so many containers.
         return Err(AllocError);
     };
-    json!(in alloc; {
-        "bays": row.block.bays,
-        "block": letter.as_str(),
-        "cells": cell_count(row.block),
-        "forties": row.used.forties,
-        "highest": row.used.highest,
-        "rows": row.block.rows,
-        "tiers": row.block.tiers,
-        "twenties": row.used.twenties,
-        "under": row.used.under,
-        "used": used
-    })
+    put(members, alloc, "forties", Value::from(used.forties))?;
+    put(members, alloc, "highest", Value::from(used.highest))?;
+    put(members, alloc, "twenties", Value::from(used.twenties))?;
+    put(members, alloc, "under", Value::from(used.under))?;
+    put(members, alloc, "used", Value::from(cells))
 }
 
 /// How many cells are used, if 64 bits count them.

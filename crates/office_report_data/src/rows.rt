@@ -1,10 +1,10 @@
 //! JSON that is written piece by piece.
 ghost use Rattle.json.specs.Print.{quoted};
 ghost use Rattle.office_report_data.specs.Rows.{list_back, object_back, rows_front};
-ghost use Rattle.serde_json.specs.Written.{comma_if};
+ghost use Rattle.serde_json.specs.{Data.{put as with_member, string}, View.members_view, Written.comma_if};
 ghost use Rattle.std.specs.Prelude.{◌≡◌, ◌++◌, string_bytes, IfOk, OnOk};
 
-use serde_json::Value;
+use serde_json::{Map, Value, put};
 use std::alloc::{AllocError, Global};
 
 /// The front of an object whose first member is its rows.
@@ -91,6 +91,20 @@ pub(crate) fn push_quoted_in(
 {
     let quoted = quoted_text(alloc, shown)?;
     push_three(text, front, quoted.as_str(), back)
+}
+
+/// Puts a text among the members of an object.
+pub(crate) fn put_text(
+    alloc: Global,
+    members: &mut Map<String, Value>,
+    name: &str,
+    text: &str,
+) -> Result<(), AllocError>
+    ensures { OnOk result (members_view members.new.entries
+        ≡ with_member name.now (string text.now) (members_view members.old.entries)) }
+{
+    let value = Value::try_from_str(alloc, text)?;
+    put(members, alloc, name, value)
 }
 
 fn quoted_text(alloc: Global, text: &str) -> Result<String, AllocError>

@@ -202,7 +202,6 @@ pub fn show_waiting(
 }
 
 /// The CONTRL of the reply that is kept of an interchange of a partner under a number, shown so. None if it has none.
-#[tactic(auto, unfolding(crate::specs::Told::shown))]
 pub fn show_contrl(
     alloc: Global,
     partner: &str,

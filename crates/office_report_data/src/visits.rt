@@ -1,14 +1,15 @@
 //! The report on a container's visits as JSON and as CSV.
 ghost use Rattle.office_admission.specs.Setups.{setup_content};
 ghost use Rattle.office_report_data.specs.{Containers.passage_data, Tables.{HasGiven, IsBetweenRecords, record_text, written_rows}, Words.or_null};
-ghost use Rattle.office_report_data.specs.Visits.{days_data, days_field, fields_content, passage_fields, visit_data, visit_fields, visits_data, visits_front, visits_header, visits_table};
+ghost use Rattle.office_report_data.specs.Visits.{AreOfVisit, days_data, days_field, fields_content, passage_fields, record_of, visit_data, visit_fields, visits_data};
+ghost use Rattle.office_report_data.specs.Visits.{visits_front, visits_header, visits_table, with_passages, with_stay};
 ghost use Rattle.office_reports.specs.{Passages.{arrival_by, departure_by, passage_content}, Visits.visits_content};
-ghost use Rattle.serde_json.specs.{View.{items_of, view}, Written.{compact_text, items_text}};
+ghost use Rattle.serde_json.specs.{View.{items_of, members_view, view}, Written.{compact_text, items_text}};
 ghost use Rattle.std.specs.{List.flat_map, Option.option_map, Prelude.{◌≡◌, ◌++◌, Some, false, map, string_bytes, IfOk, OnOk}};
 ghost use Rattle.terminal_core.specs.Rows.{visit_content};
 
 use crate::containers::{passage_or_null, passage_value};
-use crate::rows::{push_back, push_quoted_in, push_row};
+use crate::rows::{push_back, push_quoted_in, push_row, put_text};
 use crate::tables::{push_record, table_text, table_under};
 use crate::words::{load_word, number_field, number_or_null, text_or_null, way_word};
 use csv::Writer;
@@ -16,7 +17,7 @@ use edi_syntax::Moment;
 use office_admission::Setup;
 use office_reports::texts::{moment_text, number_text, size_text, slot_text};
 use office_reports::{Passage, VisitsReport, passage_of};
-use serde_json::{Value, json};
+use serde_json::{Map, Value, put};
 use std::alloc::{AllocError, Global};
 use terminal_core::{Departure, Visit};
 
@@ -71,28 +72,59 @@ fn visit_text(alloc: Global, setup: &Setup, visit: &Visit) -> Result<String, All
     value.to_string(alloc)
 }
 
+#[tactic(auto, using(crate::proofs::MemberLemmas::visit_whole))]
 fn visit_value(alloc: Global, setup: &Setup, visit: &Visit) -> Result<Value, AllocError>
     ensures { IfOk result
         (λ value. view value ≡ visit_data (setup_content setup.now) (visit_content visit.now)) }
 {
-    let booking = text_or_null(alloc, visit.booking.as_str())?;
-    let days = days_value(visit.arrival.moment, &visit.departure);
-    let entry = passage_value(alloc, &entry_of(setup, visit))?;
-    let exit = passage_or_null(alloc, &exit_of(setup, &visit.departure))?;
-    let gross = number_or_null(visit.kilos);
+    let mut members = Map::new(alloc);
+    put_stay(alloc, &mut members, visit)?;
+    put_passages(alloc, &mut members, setup, visit)?;
+    Ok(Value::Object(members))
+}
+
+/// Puts what is said of a visit, but for its passages, among the members of an object.
+#[tactic(auto, unfolding(crate::specs::Visits::with_stay))]
+fn put_stay(
+    alloc: Global,
+    members: &mut Map<String, Value>,
+    visit: &Visit,
+) -> Result<(), AllocError>
+    ensures { OnOk result (members_view members.new.entries
+        ≡ with_stay (visit_content visit.now) (members_view members.old.entries)) }
+{
     let size = size_text(alloc, visit.size_type)?;
     let slot = slot_text(alloc, visit.arrival.slot)?;
-    json!(in alloc; {
-        "booking": &booking,
-        "days": &days,
-        "entry": &entry,
-        "exit": &exit,
-        "gross": &gross,
-        "load": load_word(visit.is_laden),
-        "size_type": size.as_str(),
-        "slot": slot.as_str(),
-        "visit": visit.number
-    })
+    let booking = text_or_null(alloc, visit.booking.as_str())?;
+    put(members, alloc, "booking", booking)?;
+    put(members, alloc, "gross", number_or_null(visit.kilos))?;
+    put_text(alloc, members, "load", load_word(visit.is_laden))?;
+    put_text(alloc, members, "size_type", size.as_str())?;
+    put_text(alloc, members, "slot", slot.as_str())?;
+    put(members, alloc, "visit", Value::from(visit.number))
+}
+
+/// Puts how the container of a visit came and left among the members of an object.
+#[tactic(auto, unfolding(crate::specs::Visits::with_passages))]
+fn put_passages(
+    alloc: Global,
+    members: &mut Map<String, Value>,
+    setup: &Setup,
+    visit: &Visit,
+) -> Result<(), AllocError>
+    ensures { OnOk result (members_view members.new.entries
+        ≡ with_passages (setup_content setup.now) (visit_content visit.now) (members_view members.old.entries)) }
+{
+    put(
+        members,
+        alloc,
+        "days",
+        days_value(visit.arrival.moment, &visit.departure),
+    )?;
+    let entry = passage_value(alloc, &entry_of(setup, visit))?;
+    put(members, alloc, "entry", entry)?;
+    let exit = passage_or_null(alloc, &exit_of(setup, &visit.departure))?;
+    put(members, alloc, "exit", exit)
 }
 
 /// By which the container of a visit came.
@@ -184,6 +216,7 @@ fn push_records(
     Ok(())
 }
 
+#[tactic(auto, using(crate::proofs::MemberLemmas::visit_is))]
 fn push_visit(
     alloc: Global,
     table: &mut Writer<Vec<u8>>,
@@ -194,34 +227,68 @@ fn push_visit(
     ensures { OnOk result (HasGiven table.new (written_rows table.old
         ++ record_text (visit_fields (setup_content setup.now) (visit_content visit.now)))) }
 {
-    let number = visit.number.to_string(alloc)?;
-    let size = visit.size_type.text();
-    let slot = slot_text(alloc, visit.arrival.slot)?;
-    let booking = String::from_str(alloc, visit.booking.as_str())?;
-    let gross = number_field(alloc, visit.kilos)?;
-    let entry = passage_fields(alloc, &Some(entry_of(setup, visit)))?;
+    let fields = fields_of(alloc, visit)?;
+    let entry = some_fields(alloc, &entry_of(setup, visit))?;
     let exit = passage_fields(alloc, &exit_of(setup, &visit.departure))?;
-    let days = days_field(alloc, visit.arrival.moment, &visit.departure)?;
+    push_fields(table, &fields, load_word(visit.is_laden), &entry, &exit)
+}
+
+#[tactic(auto, unfolding(crate::specs::Visits::visit_record))]
+fn push_fields(
+    table: &mut Writer<Vec<u8>>,
+    fields: &VisitFields,
+    load: &str,
+    entry: &PassageFields,
+    exit: &PassageFields,
+) -> Result<(), AllocError>
+    requires { IsBetweenRecords table.old }
+    ensures { OnOk result (HasGiven table.new (written_rows table.old
+        ++ record_text (record_of fields.now load.now entry.now exit.now))) }
+{
     push_record(
         table,
         &[
-            number.as_bytes(),
-            &size,
-            load_word(visit.is_laden).as_bytes(),
+            fields.number.as_bytes(),
+            fields.size.as_bytes(),
+            load.as_bytes(),
             entry.way.as_bytes(),
             entry.partner.as_bytes(),
             entry.number.as_bytes(),
             entry.moment.as_bytes(),
-            slot.as_bytes(),
-            booking.as_bytes(),
-            gross.as_bytes(),
+            fields.slot.as_bytes(),
+            fields.booking.as_bytes(),
+            fields.gross.as_bytes(),
             exit.way.as_bytes(),
             exit.partner.as_bytes(),
             exit.number.as_bytes(),
             exit.moment.as_bytes(),
-            days.as_bytes(),
+            fields.days.as_bytes(),
         ],
     )
+}
+
+/// What is said of a visit besides its passages, and nothing of what there is not.
+#[derive(Drop)]
+struct VisitFields {
+    number: String,
+    size: String,
+    slot: String,
+    booking: String,
+    gross: String,
+    days: String,
+}
+
+fn fields_of(alloc: Global, visit: &Visit) -> Result<VisitFields, AllocError>
+    ensures { IfOk result (λ fields. AreOfVisit (visit_content visit.now) fields) }
+{
+    Ok(VisitFields {
+        number: visit.number.to_string(alloc)?,
+        size: size_text(alloc, visit.size_type)?,
+        slot: slot_text(alloc, visit.arrival.slot)?,
+        booking: String::from_str(alloc, visit.booking.as_str())?,
+        gross: number_field(alloc, visit.kilos)?,
+        days: days_field(alloc, visit.arrival.moment, &visit.departure)?,
+    })
 }
 
 /// What is said of a passage, and nothing if there is none.

@@ -4,7 +4,7 @@ use Rattle.office_admission.specs.Setups.{setup_content}
 use Rattle.office_history.specs.After.{content_after}
 use Rattle.office_desk.specs.Reports.{partner_called}
 use Rattle.office_archives.proofs.{Beside.{called_here, nobody_here}, Brought.number_as}
-use Rattle.office_archives.proofs.archived_desk.tell_number.Goals as goal
+use Rattle.office_archives.proofs.of_archive.tell_number.Goals as goal
 
 pub returns-in_default-clause-told : goal.returns-in_default-clause-told
 returns-in_default-clause-told g c = λ whole.

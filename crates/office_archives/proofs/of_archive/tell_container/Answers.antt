@@ -1,6 +1,6 @@
 use Rattle.std.proofs.Common.{◌≡◌, ◌-◌, option_map, string_bytes, rules, ap, ◌∙◌}
 use Rattle.office_archives.{specs.Telling.shown_beside, proofs.Brought.container_as}
-use Rattle.office_archives.proofs.archived_desk.tell_container.Goals as goal
+use Rattle.office_archives.proofs.of_archive.tell_container.Goals as goal
 
 pub returns-clause-told : goal.returns-clause-told
 returns-clause-told g c = λ whole content list are.

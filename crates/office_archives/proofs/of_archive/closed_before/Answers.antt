@@ -2,8 +2,8 @@ use Rattle.std.{specs.Option.option_and_then, proofs.Common.{◌≤◌, inl, inr
 use Rattle.std.proofs.lemmas.Bool.{leb-false, leb-true, ltb-false, ltb-true}
 use Rattle.office_loading.specs.Closed.{last_closed}
 use Rattle.office_archives.{specs.Shelves.archive_at, proofs.Beside.{closed_there, open_there}}
-use Rattle.office_archives.proofs.archived_desk.closed_before.Goals.{then-number-eq0-via-then-number-eq0, then-number-eq0-via-else-number-eq0+then-not-is_closed}
-use Rattle.office_archives.proofs.archived_desk.closed_before.Goals as goal
+use Rattle.office_archives.proofs.of_archive.closed_before.Goals.{then-number-eq0-via-then-number-eq0, then-number-eq0-via-else-number-eq0+then-not-is_closed}
+use Rattle.office_archives.proofs.of_archive.closed_before.Goals as goal
 
 -- ---- a number that the desk doesn't know for closed
 

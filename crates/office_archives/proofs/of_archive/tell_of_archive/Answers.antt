@@ -2,7 +2,7 @@ use Rattle.std.proofs.Common.{option_map, string_bytes}
 use Rattle.office_rows.proofs.Creating.{if_ok}
 use Rattle.office_history.specs.After.{content_after}
 use Rattle.office_archives.proofs.Brought.{neither_as, told_there}
-use Rattle.office_archives.proofs.archived_desk.tell_of_archive.Goals as goal
+use Rattle.office_archives.proofs.of_archive.tell_of_archive.Goals as goal
 
 pub returns-in-Visits-clause-told : goal.returns-in-Visits-clause-told
 returns-in-Visits-clause-told g c = λ whole.
