@@ -1,7 +1,7 @@
 ghost use Rattle.std.specs.{List.{list_any, find}, Prelude.{IfOk, IfErr, None, Some, ◌≡◌, ◌∷◌, ◌≤◌, ◌||◌, [], length, MatchOption, true, false, ◌==◌}};
 ghost use Rattle.edi_syntax.specs.{Checks.{checked_left, are_all}, Interchange.{most_bytes, InterchangeText, segments_in}, Envelopes.envelope_segments};
 ghost use Rattle.edi_syntax.specs.{Segment.{content, segments_left, value}, Envelope.{last_of, has_envelope, is_of_functional_group}, Surveys.IsSurvey};
-ghost use Rattle.edi_syntax.specs.{Faults.{applies_to, header_fault_of, body_fault_of, fault_of}, Tallies.IsTallied, TallyValues.tally_in};
+ghost use Rattle.edi_syntax.specs.{Header.{control_number, preparation}, Faults.{applies_to, header_fault_of, body_fault_of, fault_of}, Tallies.IsTallied, TallyValues.tally_in};
 ghost use Rattle.edi_syntax.specs.Messages.{messages_in, are_messages, is_reference, is_printable_identity, is_referenced, message_of_ends};
 
 use crate::envelope::Envelope;
@@ -10,7 +10,7 @@ use crate::head::{
     Head, control_number, is_count, is_known_syntax, is_printable_element, names_partners,
     preparation,
 };
-use crate::{CheckedSegments, Component, Segment, Segments, SyntaxFault};
+use crate::{CheckedSegments, Component, Moment, Segment, Segments, SyntaxFault};
 
 /// Reads the text of an interchange: the first fault that applies to the whole text, or the envelope if none does.
 pub fn open_envelope<'a>(text: &'a [u8]) -> Result<Envelope<'a>, SyntaxFault>
@@ -23,30 +23,45 @@ pub fn open_envelope<'a>(text: &'a [u8]) -> Result<Envelope<'a>, SyntaxFault>
     Head::open(text)?.body()
 }
 
-/// The first fault of the envelope and its header, of the segments from the header to the trailer.
-pub(crate) fn header_fault(
+/// What a header without fault says of its interchange.
+#[derive(Clone, Copy)]
+pub(crate) struct HeaderContent {
+    /// The number that the control reference (0020) writes.
+    pub number: u32,
+    /// The moment of preparation (S004).
+    pub moment: Moment,
+}
+
+/// Reads what the header says, or finds the first fault of the envelope and its header, of the segments from the header to the trailer.
+pub(crate) fn read_header(
     header: Segment<'_>,
     rest: Segments<'_>,
     trailer: Segment<'_>,
     has_functional_group: bool,
-) -> Option<SyntaxFault>
+) -> Result<HeaderContent, SyntaxFault>
     requires last { content trailer ≡ last_of (content header) (segments_left rest) }
     requires group { has_functional_group ≡ list_any is_of_functional_group (content header ∷ segments_left rest) }
-    ensures { result ≡ header_fault_of (content header.entry ∷ segments_left rest.entry) }
+    ensures ok { IfOk result (λ found. (header_fault_of (content header.entry ∷ segments_left rest.entry) ≡ None)
+        × (control_number (content header.entry) ≡ Some found.number)
+        × (preparation (content header.entry) ≡ Some found.moment)) }
+    ensures err { IfErr result (λ fault. header_fault_of (content header.entry ∷ segments_left rest.entry) ≡ Some fault) }
 {
     if !(header.has_tag(b"UNB") && trailer.has_tag(b"UNZ") && names_partners(&header)) {
-        Some(SyntaxFault::NoEnvelope)
-    } else if has_functional_group {
-        Some(SyntaxFault::Group)
-    } else if !is_known_syntax(&header) {
-        Some(SyntaxFault::Version)
-    } else if control_number(&header).is_none() {
-        Some(SyntaxFault::Number)
-    } else if preparation(&header).is_none() {
-        Some(SyntaxFault::Moment)
-    } else {
-        None
+        return Err(SyntaxFault::NoEnvelope);
     }
+    if has_functional_group {
+        return Err(SyntaxFault::Group);
+    }
+    if !is_known_syntax(&header) {
+        return Err(SyntaxFault::Version);
+    }
+    let Some(number) = control_number(&header) else {
+        return Err(SyntaxFault::Number);
+    };
+    let Some(moment) = preparation(&header) else {
+        return Err(SyntaxFault::Moment);
+    };
+    Ok(HeaderContent { number, moment })
 }
 
 /// The first fault of what the header announces.

@@ -6,7 +6,7 @@ ghost use Rattle.edi_syntax.specs.Header.{sender, recipient, control_reference, 
 ghost use Rattle.edi_syntax.specs.TallyValues.{tally_in};
 
 use crate::envelope::Envelope;
-use crate::faults::{Tally, body_fault, header_fault, look_through};
+use crate::faults::{Tally, body_fault, look_through, read_header};
 use crate::{
     CheckedSegments, Component, MOST_BYTES, Moment, Segment, SegmentCheck, Segments, SyntaxFault,
 };
@@ -18,10 +18,12 @@ pub struct Head<'a> {
     rest: Segments<'a>,
     trailer: Segment<'a>,
     tally: Option<Tally>,
+    number: u32,
     pub ghost faultless: { header_fault_of (content header ∷ segments_left rest) ≡ None },
     pub ghost closed: { content trailer ≡ last_of (content header) (segments_left rest) },
     pub ghost bounded: { length (segments_left rest) ≤ most_bytes },
     ghost tallied: { tally ≡ tally_in (segments_left rest) } by { Prim.hlevel props },
+    ghost numbered: { control_number (content header) ≡ Some number },
 }
 
 impl<'a> Head<'a> {
@@ -63,15 +65,14 @@ impl<'a> Head<'a> {
             return Err(SyntaxFault::Segment);
         };
         let rest = rest.accepted();
-        match header_fault(header, rest, survey.trailer, survey.has_functional_group) {
-            Some(fault) => Err(fault),
-            None => Ok(Head {
-                header,
-                rest,
-                trailer: survey.trailer,
-                tally: survey.tally,
-            }),
-        }
+        let found = read_header(header, rest, survey.trailer, survey.has_functional_group)?;
+        Ok(Head {
+            header,
+            rest,
+            trailer: survey.trailer,
+            tally: survey.tally,
+            number: found.number,
+        })
     }
 
     /// Reads what the header announces: the first of faults 9 to 15 that applies to the whole text, or the envelope
@@ -127,7 +128,7 @@ impl<'a> Head<'a> {
         ensures first { 1 ≤ result }
         ensures last { result ≤ last_number }
     {
-        control_number(&self.header).unwrap()
+        self.number
     }
 
     /// The moment of preparation (S004).

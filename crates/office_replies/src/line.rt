@@ -1,4 +1,4 @@
-ghost use Rattle.std.specs.{Io.KnownBytes.Appends, Prelude.{◌≡◌, true, OnOk, OnErr, ◌≤◌, false, length}};
+ghost use Rattle.std.specs.{Io.KnownBytes.Appends, Prelude.{◌≡◌, true, OnOk, OnErr, IfSome, ◌≤◌, false, length}};
 ghost use Rattle.edi_syntax.specs.Reading.{breaks_len};
 ghost use Rattle.office_replies.specs.{Responses.body_of, Fronts.AppendsFront, StreamLines.{line, end_text, end_worst}};
 ghost use Rattle.office_replies.specs.{Places.{cut_by, cut_for, with_passed, with_piece, with_whole}, Writes.{WritesOut, WritesPieces, joined_parts}};
@@ -6,6 +6,7 @@ ghost use Rattle.office_replies.specs.{Places.{cut_by, cut_for, with_passed, wit
 use crate::port::{Gathered, Port, Sink};
 use crate::stream::StreamEnd;
 use crate::{Response, Worst};
+use arrayvec::ArrayVec;
 use edi_syntax::CutFault;
 use edi_syntax::characters::is_break;
 use std::io::{Result, Write};
@@ -19,7 +20,23 @@ pub(crate) fn write_line<W: Write>(writer: &mut Port<W>, text: &str) -> Result<(
     ensures kept { OnOk result (writer.new.failed ≡ writer.old.failed) }
     ensures err { OnErr result (writer.new.failed ≡ true) }
 {
-    writer.write_parts(&[text.as_bytes(), b"\n"])
+    match short_line(text) {
+        Some(line) => writer.write_all(line.as_slice()),
+        None => writer.write_parts(&[text.as_bytes(), b"\n"]),
+    }
+}
+
+/// The most bytes of a line that is written from little room.
+const SHORT: usize = 1024;
+
+/// A text and LF, if that is a short line.
+fn short_line(text: &str) -> Option<ArrayVec<u8, SHORT>>
+    ensures { IfSome result (λ short. short.items ≡ line text.now) }
+{
+    let mut short = ArrayVec::new();
+    short.try_extend_from_slice(text.as_bytes()).ok()?;
+    short.try_push(b'\n').ok()?;
+    Some(short)
 }
 
 /// Writes the body of a response, and LF. After an error a front of them is written.
