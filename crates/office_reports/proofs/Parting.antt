@@ -1,11 +1,11 @@
 -- The parts of a key.
-use Rattle.std.{specs.{List.onto_first, Str.IsUtf8}, proofs.{lemmas.Bool.{ne_eqb, cases_Bool, and_parts, leb-true}, lemmas.List.Elements.All-from_get_or}}
-use Rattle.std.proofs.Common.{◌≡◌, ℕ, List, [], ◌∷◌, ◌++◌, Option, None, Some, option_map, append_assoc, refl, sym, ap, ◌∙◌, ◌≢◌, ◌<◌, ◌==◌, false, length, get_or, inl, inr, ◌≤◌, true, nat_le, arith, ◌^◌}
+use Rattle.std.{specs.{List.{list_all, onto_first}, Str.IsUtf8}, proofs.{lemmas.Bool.{ne_eqb, cases_Bool, and_parts, leb-true}, lemmas.List.Elements.All-from_get_or}}
+use Rattle.std.proofs.Common.{◌≡◌, ℕ, List, [], ◌∷◌, ◌++◌, Option, None, Some, option_map, append_assoc, refl, sym, ap, ◌∙◌, ◌≢◌, ◌<◌, ◌==◌, ◌&&◌, false, length, get_or, inl, inr, ◌≤◌, true, nat_le, arith, ◌^◌}
 use Rattle.std.proofs.{lemmas.List.Splits.{slice_split_none, slice_split_at, slice_split-cons_yes, slice_split-cons_no}, lemmas.List.Sums.AllPass-from_list_all}
 use Rattle.std.proofs.{lemmas.Str.IsUtf8-from_ascii, lemmas.Str.Ascii.IsAscii-from_reads, Math.Nat.pow-le-pow_right}
 use Rattle.office_reports.specs.{Escapes.{decoded_part, with_first_byte}, Keys.{key_parts, one_part, two_parts, three_parts}}
 use Rattle.edi_syntax.specs.Characters.{is_printable}
-use Rattle.edi_messages.{specs.Texts.is_name, proofs.SurveyLemmas.name_printable}
+use Rattle.edi_messages.specs.Texts.{is_name}
 
 -- ==== Decoding: Bytes that are decoded, and those that are left.
 
@@ -79,7 +79,7 @@ below b is = let top : b ≤ 126 = leb-true b 126 (and_parts (nat_le 32 b) (nat_
 
 pub name_text : (text : List ℕ) → is_name text ≡ true → IsUtf8 text
 name_text text named =
-    let all = AllPass-from_list_all is_printable text (name_printable text named) in
+    let all = AllPass-from_list_all is_printable text (and_parts (nat_le 1 (length text) && nat_le (length text) 35) (list_all is_printable text) named).1 in
     IsUtf8-from_ascii text (IsAscii-from_reads text (length text) (omega arith) (λ k within. below _ (all k 0 within)))
 
 -- ==== Room: One digit more, while there is room for one.
