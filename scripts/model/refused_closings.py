@@ -16,7 +16,7 @@ from .days import Day
 from .office import Office
 from .old_stores import write_store
 from .opened import fault_of_rows
-from .register import Archive, Register, Segment, Settled, is_sound
+from .register import Archive, Register, Sealed, Segment, Settled, is_sound
 from .rows import ENDS, REGISTER, REGISTER_COLUMNS, copy_files, registered_in, rows_in, rows_of
 from .setup import DEMO, with_accounts
 from .setups import files_of
@@ -45,7 +45,8 @@ UNSOUND = [
     "INSERT INTO settled VALUES ('%s', 'V12', 2, 1, '')" % ('V' * 36), 'UPDATE taken SET archive = 2',
     'UPDATE taken SET last = 0 WHERE partner = 1', 'UPDATE taken SET last = 1000000000',
     'UPDATE taken SET partner = 1000 WHERE partner = 1', 'UPDATE taken SET partner = 0 WHERE partner = 1',
-    'INSERT INTO taken VALUES (1, 0, 1)']
+    'INSERT INTO taken VALUES (1, 0, 1)', 'UPDATE sealed SET archive = 2', 'UPDATE sealed SET archive = 0',
+    "UPDATE sealed SET terminal = ''", "UPDATE sealed SET terminal = '%s'" % ('T' * 36)]
 EMPTIED = ''.join('DELETE FROM %s;' % table for table in REGISTER_COLUMNS)
 # what makes lines of lists unreadable
 UNREADABLE = [
@@ -55,7 +56,7 @@ UNREADABLE = [
 UNFIT = [
     'UPDATE segment SET last = last + 1 WHERE partner = 1',
     'UPDATE segment SET last = last - 1 WHERE partner = 1 AND last > 1',
-    'DELETE FROM segment WHERE partner = 1', 'UPDATE archive SET visits = 0']
+    'DELETE FROM segment WHERE partner = 1', 'UPDATE archive SET visits = 0', "UPDATE sealed SET terminal = 'TERM2'"]
 # what makes an archive another one than the store in what goes
 CHANGED = [
     "UPDATE interchange SET body = CAST(body || x'0A' AS BLOB) WHERE partner = 1 AND number = 1",
@@ -286,7 +287,7 @@ def judged(path):
     register = Register(
         tuple(Archive(*row) for row in found['archive']), tuple(Segment(*row) for row in found['segment']),
         found['closed_for'][0][0] if found['closed_for'] else None, tuple(Settled(*row) for row in found['settled']),
-        tuple(Segment(*row) for row in found['taken']))
+        tuple(Segment(*row) for row in found['taken']), tuple(Sealed(*row) for row in found['sealed']))
     is_one = len(found['closed_for']) <= 1 and is_sound(register)
     return fault_of_rows(rows_in(path)[0], register=register) if is_one else 'Damaged'
 
@@ -349,13 +350,14 @@ def try_registers(room, day):
 
 
 def try_older(room, day):
-    """Registers of before they said what had been taken."""
-    try_without(room, day, ['taken'])
+    """Registers of before they said what had been taken, and of before they had seals."""
+    for missing in (['sealed'], ['taken', 'sealed']):
+        try_without(room, day, missing)
 
 
 def try_oldest(room, day):
     """Registers of before lists were put away."""
-    try_without(room, day, ['settled', 'taken'])
+    try_without(room, day, ['settled', 'taken', 'sealed'])
 
 
 def try_without(room, day, missing):
@@ -366,7 +368,7 @@ def try_without(room, day, missing):
     for name in ('office.db', 'first.db'):
         edit(room.path(name) + REGISTER, ''.join('DROP TABLE %s;' % table for table in missing))
     office, vessels = room.offices[room.path('office.db')], Vessels(day.random, day)
-    office.register = office.register._replace(taken=())
+    office.register = office.register._replace(sealed=(), **({'taken': ()} if 'taken' in missing else {}))
     for kind in ('calls', 'archives'):
         room.beside.report('an older register', room.program('office.db'), office, kind)
     for text in vessels.new_call(office):

@@ -282,6 +282,7 @@ fn words_of_refusal(why: Refusal) -> Words {
         Refusal::Register => Words::OTHER_REGISTER,
         Refusal::Interchange(_) => Words::OTHER_INTERCHANGE,
         Refusal::Order => Words::OTHER_ORDER,
+        Refusal::Seals => Words::OTHER_SEALS,
         Refusal::Visit(_) => Words::OTHER_VISIT,
     }
 }

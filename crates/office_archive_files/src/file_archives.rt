@@ -2,11 +2,12 @@ ghost use Rattle.std.specs.Prelude.{◌≡◌, IfOk, List, None, Some};
 ghost use Rattle.office_archive_files.specs.Shelves.{HoldArchiveAt};
 ghost use Rattle.office_archives.specs.Shelves.{IsOpenAt};
 ghost use Rattle.office_parts.specs.Archives.{Archive};
-ghost use Rattle.sqlite.specs.{Files.over_files, WalFiles.image_at};
+ghost use Rattle.office_tables.specs.DeliveryReading.{OnlyReads};
+ghost use Rattle.sqlite.specs.{Files.{file_state, over_files}, WalFiles.image_at};
 
-use crate::shelf::{ArchiveStart, FileShelf, NO_ARCHIVE};
+use crate::shelf::{ArchiveStart, FileShelf};
 use edi_messages::Call;
-use office_archives::{Archives, Looked, ManyArchives, Shelf};
+use office_archives::{Archives, Looked, ManyArchives, NO_ARCHIVE, Shelf};
 use office_closing::Register;
 use office_reports::Query;
 use office_tables::{Kept, TableFault};
@@ -49,6 +50,21 @@ impl<'a, B: ArchiveStart> StoreShelf<'a, B> {
             None => Err(TableFault::Store(NO_ARCHIVE)),
         }
     }
+
+    /// Whether an archive that was opened for a place is its own; none is that of an empty shelf.
+    fn is_own(
+        &self,
+        archive: &mut Looked<FileStore<FileFrom<B>>>,
+        names: &Register,
+        place: u16,
+    ) -> Result<bool, TableFault>
+        ensures reads { OnlyReads (file_state archive.old.conn) (file_state archive.new.conn) result }
+    {
+        match &self.shelf {
+            Some(shelf) => shelf.is_own(archive, names, place),
+            None => Err(TableFault::Store(NO_ARCHIVE)),
+        }
+    }
 }
 
 impl<B: ArchiveStart> Shelf<FileStore<FileFrom<B>>> for StoreShelf<'_, B> {
@@ -62,6 +78,15 @@ impl<B: ArchiveStart> Shelf<FileStore<FileFrom<B>>> for StoreShelf<'_, B> {
         place: u16,
     ) -> Result<Looked<FileStore<FileFrom<B>>>, TableFault> {
         self.own_archive(names, place)
+    }
+
+    fn passes(
+        &self,
+        archive: &mut Looked<FileStore<FileFrom<B>>>,
+        names: &Register,
+        place: u16,
+    ) -> Result<bool, TableFault> {
+        self.is_own(archive, names, place)
     }
 }
 
@@ -91,6 +116,15 @@ impl Shelf<FileStore<FileFrom<Unknown>>> for UnknownShelf<'_> {
         place: u16,
     ) -> Result<Looked<FileStore<FileFrom<Unknown>>>, TableFault> {
         self.shelf.own_archive(names, place)
+    }
+
+    fn passes(
+        &self,
+        archive: &mut Looked<FileStore<FileFrom<Unknown>>>,
+        names: &Register,
+        place: u16,
+    ) -> Result<bool, TableFault> {
+        self.shelf.is_own(archive, names, place)
     }
 }
 
@@ -146,8 +180,8 @@ impl<'a> Archives for FileArchives<'a> {
         self.archives.place_of(partner, number)
     }
 
-    fn has_lists(&self) -> bool {
-        self.archives.has_lists()
+    fn has_lists(&self, count: usize) -> bool {
+        self.archives.has_lists(count)
     }
 
     fn lines(

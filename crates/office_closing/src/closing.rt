@@ -1,10 +1,10 @@
 ghost use Rattle.std.specs.Prelude.{◌≡◌, ◌<◌, ◌≤◌, ◌+◌, ◌-◌, [], ◌∷◌, false, map, min, true, IfOk, IfErr};
 ghost use Rattle.edi_messages.specs.Owned.{call_content};
-ghost use Rattle.office_closing.specs.{Clearing.{Clears, most_at_once, IsWithoutSome, IsWithoutSomeLists, IsWithoutSomeVisits}, Files.{AreClean, AreIdle, files}};
-ghost use Rattle.office_closing.specs.{Closes.{ArePutAway, Closes, IsLeft, cleared, closing_content}, Judging.AreResting, Refusing.IsFileOf};
+ghost use Rattle.office_closing.specs.{Clearing.{Clears, most_at_once, IsWithoutSome, IsWithoutSomeLists, IsWithoutSomeVisits}, Judging.AreResting};
+ghost use Rattle.office_closing.specs.{Files.{AreClean, AreIdle, files}, Closes.{ArePutAway, Closes, IsLeft, cleared, closing_content}, Refusing.IsFileOf};
 ghost use Rattle.office_closing.specs.{Deleting.{Deletes, all_but, goes, is_one_of, without_interchange, without_visits}, Lists.list_content};
 ghost use Rattle.office_closing.specs.{Steps.{StepsIf, is_unmarked, is_unraised}, Changes.{closed_with, marked_for, unchanged, unmarked}};
-ghost use Rattle.office_closing.specs.Register.{archive_content};
+ghost use Rattle.office_closing.specs.Register.{archive_content, sealed_content};
 ghost use Rattle.office_parts.specs.{Bringing.is_list, OwnLists.{list_name, rows_without_lists}, LeftOver.rows_without};
 ghost use Rattle.sqlite.specs.Held.{state};
 ghost use Rattle.office_closing.specs.declared.faults.CloseFault.TheVariants as close_fault;
@@ -13,7 +13,9 @@ use crate::comparing::Numbers;
 use crate::faults::{CloseFault, File, FileFault};
 use crate::judging::judge;
 use crate::planning::{Plan, PutAway, Stage, is_unmarked, is_unraised, put_away};
-use crate::{Archive, Segment, SettledList, characters, close_with, mark, side_code};
+use crate::{
+    Archive, SealedArchive, Segment, SettledList, characters, close_with, mark, side_code,
+};
 use edi_messages::Call;
 use office_tables::{TableFault, commit, integer};
 use sqlite::{Alter, Connection, Transaction};
@@ -122,7 +124,8 @@ fn mark_now<S: Alter>(conn: &mut Connection<S>, store_file: &str) -> Result<(), 
 fn raise<S: Alter>(conn: &mut Connection<S>, plan: &Plan) -> Result<(), CloseFault>
     requires { (state S.Store conn.old).in_transaction ≡ false }
     ensures steps { StepsIf (is_unraised plan.now.stage) unchanged
-        (closed_with (archive_content plan.now.archive) plan.now.segments.items (map list_content plan.now.lists.items) plan.now.taken.items) (state S.Store conn.old)
+        (closed_with (archive_content plan.now.archive) plan.now.segments.items (map list_content plan.now.lists.items) plan.now.taken.items
+        (map sealed_content plan.now.sealed.items)) (state S.Store conn.old)
         (state S.Store conn.new) result }
     ensures file { IfErr result (IsFileOf File.Register) }
 {
@@ -134,26 +137,29 @@ fn raise<S: Alter>(conn: &mut Connection<S>, plan: &Plan) -> Result<(), CloseFau
             &plan.segments,
             &plan.lists,
             &plan.taken,
+            &plan.sealed,
         )
     } else {
         Ok(())
     }
 }
 
-/// Gives the store's register an archive with its segments and lists, and what had been taken.
+/// Gives the store's register an archive with its segments and lists, what had been taken, and what is sealed.
 fn raise_now<S: Alter>(
     conn: &mut Connection<S>,
     archive: &Archive,
     segments: &[Segment],
     lists: &[SettledList],
     taken: &[Segment],
+    sealed: &[SealedArchive],
 ) -> Result<(), CloseFault>
     requires { (state S.Store conn.old).in_transaction ≡ false }
-    ensures steps { StepsIf true unchanged (closed_with (archive_content archive.now) segments.now (map list_content lists.now) taken.now)
+    ensures steps { StepsIf true unchanged (closed_with (archive_content archive.now) segments.now (map list_content lists.now) taken.now
+        (map sealed_content sealed.now))
         (state S.Store conn.old) (state S.Store conn.new) result }
     ensures file { IfErr result (IsFileOf File.Register) }
 {
-    match close_with(conn, archive, segments, lists, taken) {
+    match close_with(conn, archive, segments, lists, taken, sealed) {
         Ok(()) => Ok(()),
         Err(fault) => Err(not_written(File::Register, fault)),
     }

@@ -31,3 +31,7 @@ pub returns-in_err-setup-clause-refused : goal.returns-in_err-setup-clause-refus
 returns-in_err-setup-clause-refused g c =
     let p = err_from_is_err_and c.from_residual-in_err-setup.result c.from_residual-in_err-setup.ensures.1 in
     λ clean now_open schema. rw (p.1, p.2) (unloaded _ _ _ _ c.in_ok-closed.ensures (c.in_err-setup.ensures.refused clean now_open schema))
+
+pub returns-clause-loads : goal.returns-clause-loads
+returns-clause-loads g c clean schema =
+    subst (λ (k : ClosedContent). LoadsOwn k (state g.S.Store c.args.looked.now.conn).committed _ _) c.in_ok-closed.ensures (c.in_ok-setup.ensures.loaded clean schema)

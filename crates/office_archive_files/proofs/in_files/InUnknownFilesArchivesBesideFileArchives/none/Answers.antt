@@ -8,6 +8,6 @@ pub returns : goal.returns
 returns c =
     let many = c.new.ensures in
     let it = c.new-2.result.archives in
-    none_shelved over_files _ _ it.shelf it.register it.opened (none_held _ 1)
+    none_shelved over_files _ _ it.shelf it.register it.opened.items (none_held _ 1)
     (ap register_content (ap (λ archives. archives.register) c.new-2.ensures ∙ many.register) ∙ c.no_archives.ensures)
-    (ap (λ archives. archives.opened) c.new-2.ensures ∙ many.opened)
+    (ap (λ archives. archives.opened.items) c.new-2.ensures ∙ many.opened)
