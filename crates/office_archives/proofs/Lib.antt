@@ -6,6 +6,7 @@ pub mod Alone
 pub mod Accounts
 pub mod Brought
 pub mod Told
+pub mod Noted
 pub mod Beside
 pub mod Journal
 pub mod PartQuery

@@ -1,31 +1,34 @@
-ghost use Rattle.std.specs.{Option.option_map, Prelude.{◌≡◌, ◌≤◌, ◌&&◌, ◌↔◌, ℕ, nat_le, [], IfErr, IfOk, List, OnOk, Some, false, string_bytes, true}};
+ghost use Rattle.std.specs.{Option.option_map, Prelude.{◌≡◌, ◌&&◌, ℕ, nat_le, [], IfErr, IfOk, List, OnOk, Some, false, string_bytes}};
 ghost use Rattle.std.specs.Result.{result_map_both};
 ghost use Rattle.edi_messages.specs.Owned.{call_content};
 ghost use Rattle.edi_syntax.specs.{Interchange.{interchange_of, segments_in}, Envelope.header_of};
-ghost use Rattle.office_admission.specs.{Admission.number_in, Outcomes.IsAdmitted, Setups.{SetupContent, setup_content}};
-ghost use Rattle.office_archives.specs.{Causes.{IsDeserved, IsDeservedHere}, Keeping.{IsClosedBefore, IsNotClosedBefore}};
-ghost use Rattle.office_archives.specs.Telling.{IsOfContainer, IsOfList, IsOfNumber, IsPlace, TellsAsStore};
-ghost use Rattle.office_archives.specs.Together.{EnrolsTogether, LeadsTogether, LooksTogether, OnlyLooksTogether, StandTogether, TellsBeside, TellsOfOne};
+ghost use Rattle.office_admission.specs.{Admission.number_in, Outcomes.IsAdmitted};
+ghost use Rattle.office_archives.specs.Causes.{IsDeserved, IsDeservedHere};
+ghost use Rattle.office_archives.specs.Telling.{IsOfContainer, IsOfExpected, IsOfList, IsOfNumber, IsOfWhatIsHere};
+ghost use Rattle.office_archives.specs.Together.{EnrolsTogether, LeadsTogether, LooksTogether, OnlyLooksTogether, TellsBeside};
 ghost use Rattle.office_loading.specs.Closed.{last_closed};
 ghost use Rattle.office_desk.specs.{Calls.OnlyLooks, Desks.IsSound, Reports.{DeskTells, IsOpenFor, partner_called}};
-ghost use Rattle.office_history.specs.After.{content_after};
 ghost use Rattle.office_parts.specs.Archives.{Archive};
-ghost use Rattle.office_reports.specs.{Looking.{of_archive, report, texts_after}, declared.query.Query.Query, declared.query.Query.TheVariants.Calls};
-ghost use Rattle.office_replies.specs.Events.{Event};
+ghost use Rattle.office_reports.specs.{Looking.{of_archive, report, texts_after}, declared.query.About.TheVariants.Calls};
 ghost use Rattle.office_tables.specs.declared.table_fault.TableFault.TheVariants.{Version};
 ghost use Rattle.sqlite.specs.{Held.state, State.HasCleanDisk};
 
 use crate::archives::{
+<<<<<<< HEAD
     Archives, answer_closed, archives_with_lists, partner_called, tell_closed, with_archives,
+=======
+    Archives, answer_closed, partner_called, tell_closed, with_archives, with_note,
+>>>>>>> ae65be05
 };
 use crate::bringing::bring_back_named;
 use crate::lists_away::{lines_if_away, report_by_lines};
+use crate::of_archive::tell_of_archive;
 use edi_messages::Call;
 use edi_syntax::interchange_text;
 use office_admission::Admitted;
 use office_desk::Desk;
 use office_replies::{AccountAnswer, AddAccount, Deliver, Response};
-use office_reports::{NotNow, Query, Report};
+use office_reports::{About, NotNow, Query, Report};
 use office_tables::TableFault;
 use sqlite::Alter;
 use std::alloc::Global;
@@ -142,7 +145,7 @@ impl<S: Alter + Drop, A: Archives + Drop> ArchivedDesk<S, A> {
             TellsBeside S.Store A.are self.old.desk self.old.archives query.now (option_map string_bytes found)) }
         ensures looks { OnlyLooksTogether S.Store A.are self.old.desk self.old.archives self.new.desk
             self.new.archives }
-        ensures fault { IsSound S.Store self.new.desk → IfErr result (IsDeservedHere S.Store self.old.desk query.now) }
+        ensures fault { IsSound S.Store self.new.desk → IfErr result (IsDeservedHere S.Store self.old.desk query.now.about) }
         ensures last_fault { self.new.desk.last_fault ≡ self.old.desk.last_fault }
 
         // If there are no archives, the desk reports it.
@@ -150,7 +153,7 @@ impl<S: Alter + Drop, A: Archives + Drop> ArchivedDesk<S, A> {
             IfOk result (λ found. DeskTells S.Store self.old.desk query.now (option_map string_bytes found)) }
         ensures alone_looks { A.are [] self.old.archives → OnlyLooks S.Store self.old.desk self.new.desk }
         ensures alone_fault { A.are [] self.old.archives → IsSound S.Store self.new.desk →
-            IfErr result (IsDeserved S.Store self.old.desk query.now) }
+            IfErr result (IsDeserved S.Store self.old.desk query.now.about) }
     {
         if self.archives.count() == 0 {
             return self.desk.find_report(alloc, query);
@@ -165,51 +168,93 @@ impl<S: Alter + Drop, A: Archives + Drop> ArchivedDesk<S, A> {
         ensures looks { OnlyLooksTogether S.Store A.are self.old.desk self.old.archives self.new.desk
             self.new.archives }
         ensures is_open { HasCleanDisk (state S.Store self.new.desk.conn) →
-            OnOk result (IsOpenFor query.now (state S.Store self.new.desk.conn)) }
-        ensures fault { IsSound S.Store self.new.desk → IfErr result (IsDeservedHere S.Store self.old.desk query.now) }
+            OnOk result (IsOpenFor query.now.about (state S.Store self.new.desk.conn)) }
+        ensures fault { IsSound S.Store self.new.desk → IfErr result (IsDeservedHere S.Store self.old.desk query.now.about) }
         ensures last_fault { self.new.desk.last_fault ≡ self.old.desk.last_fault }
     {
-        match query {
-            Query::Visits(_) | Query::Container(_) => self.find_container(alloc, query),
-            Query::Calls => self.find_calls(alloc, query),
-            Query::List { call, side } => self.find_list(alloc, query, call, *side),
-            Query::Work { call, side } => self.find_list(alloc, query, call, *side),
-            Query::Reply { partner, number } => self.find_number(alloc, query, partner, *number),
-            Query::Contrl { partner, number } => self.find_number(alloc, query, partner, *number),
-            Query::Ticket { partner, number } => self.find_number(alloc, query, partner, *number),
+        match &query.about {
+            About::Visits(_) | About::Container(_) => self.find_container(alloc, query),
+            About::Expected(_) => self.find_expected(alloc, query),
+            About::Find(_) | About::Start => self.find_here(alloc, query),
+            About::Calls => self.find_calls(alloc, query),
+            About::List { call, side } => self.find_list(alloc, query, call, *side),
+            About::Work { call, side } => self.find_list(alloc, query, call, *side),
+            About::Reply { partner, number } => self.find_number(alloc, query, partner, *number),
+            About::Contrl { partner, number } => self.find_number(alloc, query, partner, *number),
+            About::Ticket { partner, number } => self.find_number(alloc, query, partner, *number),
             _ => self.desk.find_report(alloc, query),
         }
     }
 
     /// What the store reports of a container, and how many archives were not searched.
     fn find_container(&mut self, alloc: Global, query: &Query) -> Result<Option<String>, TableFault>
-        requires { IsOfContainer query.now }
+        requires { IsOfContainer query.now.about }
         ensures told { IsSound S.Store self.new.desk → A.is_sound self.new.archives → IfOk result (λ found.
             TellsBeside S.Store A.are self.old.desk self.old.archives query.now (option_map string_bytes found)) }
         ensures looks { OnlyLooksTogether S.Store A.are self.old.desk self.old.archives self.new.desk
             self.new.archives }
         ensures is_open { HasCleanDisk (state S.Store self.new.desk.conn) →
-            OnOk result (IsOpenFor query.now (state S.Store self.new.desk.conn)) }
-        ensures fault { IsSound S.Store self.new.desk → IfErr result (IsDeservedHere S.Store self.old.desk query.now) }
+            OnOk result (IsOpenFor query.now.about (state S.Store self.new.desk.conn)) }
+        ensures fault { IsSound S.Store self.new.desk → IfErr result (IsDeservedHere S.Store self.old.desk query.now.about) }
         ensures last_fault { self.new.desk.last_fault ≡ self.old.desk.last_fault }
     {
         let told = self.desk.find_report(alloc, query)?;
-        Ok(with_archives(alloc, told, self.archives.count())?)
+        Ok(with_archives(alloc, query.view, told, self.archives.count())?)
     }
 
-    /// What the store reports of its lists, and how many archives there are, if lists were put away.
-    fn find_calls(&mut self, alloc: Global, query: &Query) -> Result<Option<String>, TableFault>
-        requires { query.now ≡ Calls }
+    /// The open lines that name a container, and how many archives were not searched.
+    fn find_expected(&mut self, alloc: Global, query: &Query) -> Result<Option<String>, TableFault>
+        requires { IsOfExpected query.now.about }
         ensures told { IsSound S.Store self.new.desk → A.is_sound self.new.archives → IfOk result (λ found.
             TellsBeside S.Store A.are self.old.desk self.old.archives query.now (option_map string_bytes found)) }
         ensures looks { OnlyLooksTogether S.Store A.are self.old.desk self.old.archives self.new.desk
             self.new.archives }
-        ensures fault { IsSound S.Store self.new.desk → IfErr result (IsDeservedHere S.Store self.old.desk query.now) }
+        ensures is_open { HasCleanDisk (state S.Store self.new.desk.conn) →
+            OnOk result (IsOpenFor query.now.about (state S.Store self.new.desk.conn)) }
+        ensures fault { IsSound S.Store self.new.desk → IfErr result (IsDeservedHere S.Store self.old.desk query.now.about) }
         ensures last_fault { self.new.desk.last_fault ≡ self.old.desk.last_fault }
     {
         let told = self.desk.find_report(alloc, query)?;
+        Ok(with_note(alloc, told, self.archives.count())?)
+    }
+
+    /// What the store has itself: what a text finds, and what the start page tells.
+    fn find_here(&mut self, alloc: Global, query: &Query) -> Result<Option<String>, TableFault>
+        requires { IsOfWhatIsHere query.now.about }
+        ensures told { IsSound S.Store self.new.desk → A.is_sound self.new.archives → IfOk result (λ found.
+            TellsBeside S.Store A.are self.old.desk self.old.archives query.now (option_map string_bytes found)) }
+        ensures looks { OnlyLooksTogether S.Store A.are self.old.desk self.old.archives self.new.desk
+            self.new.archives }
+        ensures is_open { HasCleanDisk (state S.Store self.new.desk.conn) →
+            OnOk result (IsOpenFor query.now.about (state S.Store self.new.desk.conn)) }
+        ensures fault { IsSound S.Store self.new.desk → IfErr result (IsDeservedHere S.Store self.old.desk query.now.about) }
+        ensures last_fault { self.new.desk.last_fault ≡ self.old.desk.last_fault }
+    {
+        self.desk.find_report(alloc, query)
+    }
+
+    /// What the store reports of its lists, and how many archives there are, if lists were put away.
+    fn find_calls(&mut self, alloc: Global, query: &Query) -> Result<Option<String>, TableFault>
+        requires { query.now.about ≡ Calls }
+        ensures told { IsSound S.Store self.new.desk → A.is_sound self.new.archives → IfOk result (λ found.
+            TellsBeside S.Store A.are self.old.desk self.old.archives query.now (option_map string_bytes found)) }
+        ensures looks { OnlyLooksTogether S.Store A.are self.old.desk self.old.archives self.new.desk
+            self.new.archives }
+        ensures fault { IsSound S.Store self.new.desk → IfErr result (IsDeservedHere S.Store self.old.desk query.now.about) }
+        ensures last_fault { self.new.desk.last_fault ≡ self.old.desk.last_fault }
+    {
+        let told = self.desk.find_report(alloc, query)?;
+<<<<<<< HEAD
         let count = archives_with_lists(&self.archives, self.archives.count());
         Ok(with_archives(alloc, told, count)?)
+=======
+        let count = if self.archives.has_lists() {
+            self.archives.count()
+        } else {
+            0
+        };
+        Ok(with_archives(alloc, query.view, told, count)?)
+>>>>>>> ae65be05
     }
 
     /// What the list of a call says, or what is left of it: if it is away, by its lines as they were put away.
@@ -220,12 +265,12 @@ impl<S: Alter + Drop, A: Archives + Drop> ArchivedDesk<S, A> {
         call: &Call,
         side: Side,
     ) -> Result<Option<String>, TableFault>
-        requires { IsOfList query.now (call_content call.now) side }
+        requires { IsOfList query.now.about (call_content call.now) side }
         ensures told { IsSound S.Store self.new.desk → A.is_sound self.new.archives → IfOk result (λ found.
             TellsBeside S.Store A.are self.old.desk self.old.archives query.now (option_map string_bytes found)) }
         ensures looks { OnlyLooksTogether S.Store A.are self.old.desk self.old.archives self.new.desk
             self.new.archives }
-        ensures fault { IsSound S.Store self.new.desk → IfErr result (IsDeservedHere S.Store self.old.desk query.now) }
+        ensures fault { IsSound S.Store self.new.desk → IfErr result (IsDeservedHere S.Store self.old.desk query.now.about) }
         ensures last_fault { self.new.desk.last_fault ≡ self.old.desk.last_fault }
     {
         match lines_if_away(alloc, &mut self.desk, &self.archives, call, side)? {
@@ -242,14 +287,14 @@ impl<S: Alter + Drop, A: Archives + Drop> ArchivedDesk<S, A> {
         code: &str,
         number: u32,
     ) -> Result<Option<String>, TableFault>
-        requires { IsOfNumber query.now code.now number }
+        requires { IsOfNumber query.now.about code.now number }
         ensures told { IsSound S.Store self.new.desk → A.is_sound self.new.archives → IfOk result (λ found.
             TellsBeside S.Store A.are self.old.desk self.old.archives query.now (option_map string_bytes found)) }
         ensures looks { OnlyLooksTogether S.Store A.are self.old.desk self.old.archives self.new.desk
             self.new.archives }
         ensures is_open { HasCleanDisk (state S.Store self.new.desk.conn) →
-            OnOk result (IsOpenFor query.now (state S.Store self.new.desk.conn)) }
-        ensures fault { IsSound S.Store self.new.desk → IfErr result (IsDeservedHere S.Store self.old.desk query.now) }
+            OnOk result (IsOpenFor query.now.about (state S.Store self.new.desk.conn)) }
+        ensures fault { IsSound S.Store self.new.desk → IfErr result (IsDeservedHere S.Store self.old.desk query.now.about) }
         ensures last_fault { self.new.desk.last_fault ≡ self.old.desk.last_fault }
     {
         let Some(partner) = partner_called(&self.desk, code) else {
@@ -370,6 +415,7 @@ impl<S: Alter + Drop, A: Archives + Drop> Report for ArchivedDesk<S, A> {
         self.answer_archive(alloc, place, query)
     }
 }
+<<<<<<< HEAD
 
 /// What the archive at a place reports for a query, as the store that it was: of a container, and of its lists if some were
 /// put away by then, also how many archives there were then, of a number that was closed before what that number's archive
@@ -496,3 +542,5 @@ fn closed_before<S: Alter, A: Archives>(
         None => false,
     }
 }
+=======
+>>>>>>> ae65be05

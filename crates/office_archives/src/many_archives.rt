@@ -12,7 +12,7 @@ use crate::looked::Looked;
 use crate::opened::Opened;
 use edi_messages::Call;
 use office_closing::{Register, read_list};
-use office_reports::Query;
+use office_reports::{Query, View};
 use office_tables::{Kept, TableFault};
 use sqlite::{Alter, Error, ErrorCode};
 use std::alloc::{AllocError, Global};
@@ -283,11 +283,22 @@ impl<S: Alter + Drop, F: Shelf<S>> Archives for ManyArchives<S, F> {
         code: &str,
         partner: u16,
         number: u32,
+        view: View,
     ) -> Result<String, TableFault> {
         let Some(place) = self.register.archive_of(partner, number) else {
             return Err(TableFault::Damaged);
         };
+<<<<<<< HEAD
         self.ticket_at(alloc, place, code, partner, number)
+=======
+        let closed = closed_before(alloc, &self.register, place)?;
+        let mut opened = self.take_out(place)?;
+        let ticket = opened
+            .archive
+            .ticket(alloc, &closed, code, partner, number, view)?;
+        self.opened = Some(opened);
+        Ok(ticket)
+>>>>>>> ae65be05
     }
 
     fn report(

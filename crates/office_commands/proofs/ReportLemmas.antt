@@ -1,5 +1,5 @@
 -- What a desk tells, by a set-up that only says the same, and by the tables that the files held.
-use Rattle.std.specs.Prelude.{string_bytes}
+use Rattle.std.specs.Prelude.{length, string_bytes}
 use Rattle.std.proofs.Common.{◌≡◌, inl, inr, ℕ, List, Option, Some, option_map, ap, sym, subst, ◌∙◌}
 use Rattle.sqlite.specs.{Effect.Database, Held.state, Tree.Trees}
 use Rattle.sqlite_trees.specs.declared.store.Store.{Ghosts}
@@ -9,17 +9,20 @@ use Rattle.office_admission.specs.{Parties.partner_from, Setups.{SetupContent, s
 use Rattle.office_rows.specs.{Opening.tables_version, Rows.Rows, Stored.HasRows}
 use Rattle.office_loading.{specs.{Closed.{closed_content, nothing_closed}, Tables.{Loads, LoadsOwn}}, proofs.Offices.whole_office}
 use Rattle.office_history.{specs.After.{SaysSame, content_after}, proofs.Alike.parties_same}
-use Rattle.office_reports.specs.{Program.program_version, declared.query.Query.Query, declared.query.ReportKind.ReportKind, Visits.visit_report}
-use Rattle.office_reports.specs.{Containers.container_report, Metrics.metrics_text, Picture.IsPicture}
-use Rattle.office_desk.specs.Reports.{AreLookedUp, TellsOf, TellsAfter, TellsNext, TellsPartner, TellsPartners, TellsReplyOf, DeskTells, contrl_for_partner, ticket_of, partner_called}
+use Rattle.office_reports.specs.{Program.program_version, declared.query.About.About, declared.query.Query.Query, declared.query.ReportKind.ReportKind}
+use Rattle.office_reports.specs.{declared.query.View.View, Visits.visits_of, Calls.lists_in, Partners.partners_of, Metrics.metrics_text, Picture.IsPicture}
+use Rattle.office_report_data.specs.Told.{ReportContent, shown}
+use Rattle.office_desk.specs.Reports.{AreLookedUp, FindsAfter, TellsAbout, TellsAfter, TellsNext, TellsPartner, TellsPartners, TellsReplyOf, DeskTells, container_told, contrl_for_partner, ticket_of, partner_called}
 use Rattle.office_desk.{specs.declared.desk.Desk.Desk, proofs.OwnNumbers.answers_alike}
 use Rattle.office_commands.{specs.{Opening.OpensOver, Reporting.{TellsKey, TellsOver, in_lines, report_text, report_status}}, proofs.Alike.now_alike}
-use Rattle.office_reports.specs.declared.query.Query.TheVariants as query
+use Rattle.std.specs.FinMap as finite_map
+use Rattle.office_reports.specs.declared.query.About.TheVariants as about
+use Rattle.office_report_data.specs.Told as value
 
 -- what is reported at each query is reported at that of a key
-pub key_also : (tells tells' : Query → Option (List ℕ) → Type 0) (kind : ReportKind) (key : List ℕ) (found : Option (List ℕ))
-    → ((query : Query) → tells query found → tells' query found) → TellsKey tells kind key found → TellsKey tells' kind key found
-key_also tells tells' kind key found also told = elim told [
+pub key_also : (tells tells' : Query → Option (List ℕ) → Type 0) (kind : ReportKind) (view : View) (key : List ℕ) (found : Option (List ℕ))
+    → ((query : Query) → tells query found → tells' query found) → TellsKey tells kind view key found → TellsKey tells' kind view key found
+key_also tells tells' kind view key found also told = elim told [
   | inl none ↦ inl none
   | inr asked ↦ inr (asked.0, asked.1, also asked.0 asked.2)
 ]
@@ -28,48 +31,67 @@ module _ (one other : SetupContent) (says : SaysSame one other) where
   called_alike : (code : List ℕ) → partner_called one code ≡ partner_called other code
   called_alike code = ap (λ parties. partner_from 1 code parties.partners) (parties_same one other says)
 
-  of_alike : (state : TerminalState) (rows : Rows) (asked : Query) (found : Option (List ℕ)) → TellsOf one state rows asked found → TellsOf other state rows asked found
-  of_alike state rows query.Yard found told = told
-  of_alike state rows query.YardTable found told = told
-  of_alike state rows (query.Visits container) found told =
-      told ∙ (λ i. visit_report (record { terminal = one.terminal; codes = one.codes; partners = says.partners i; blocks = one.blocks; visit_limit = one.visit_limit }) state container)
-  of_alike state rows (query.List call side) found told = told
-  of_alike state rows (query.Ticket partner number) found told =
-      told ∙ ap (ticket_of state.visits rows (string_bytes partner) number) (called_alike (string_bytes partner))
-  of_alike state rows (query.Reply partner number) found told =
-      subst (λ called. TellsReplyOf rows (string_bytes partner) number called found) (called_alike (string_bytes partner)) told
-  of_alike state rows (query.Container container) found told =
-      told ∙ (λ i. container_report (record { terminal = one.terminal; codes = one.codes; partners = says.partners i; blocks = one.blocks; visit_limit = one.visit_limit }) state container)
-  of_alike state rows query.Partners found told = subst (λ accounts. TellsPartners rows accounts found) says.partners told
-  of_alike state rows query.Blocks found told = told
-  of_alike state rows query.Calls found told = told
-  of_alike state rows (query.Work call side) found told = told
-  of_alike state rows (query.Contrl partner number) found told =
-      told ∙ ap (contrl_for_partner rows number) (called_alike (string_bytes partner))
-  of_alike state rows query.Picture found told =
+  of_alike : (state : TerminalState) (rows : Rows) (asked : About) (told : Option ReportContent) → TellsAbout one state rows asked told → TellsAbout other state rows asked told
+  of_alike state rows about.Yard what told = told
+  of_alike state rows (about.Visits container) what told =
+      told ∙ (λ i. option_map value.visits (visits_of (record { terminal = one.terminal; codes = one.codes; partners = says.partners i; blocks = one.blocks; visit_limit = one.visit_limit }) state container))
+  of_alike state rows (about.List call side) what told = told
+  of_alike state rows (about.Ticket partner number) what told =
+      λ view. told view ∙ ap (λ called. option_map (shown view) (ticket_of state.visits rows (string_bytes partner) number called)) (called_alike (string_bytes partner))
+  of_alike state rows (about.Reply partner number) what told =
+      subst (λ called. TellsReplyOf rows (string_bytes partner) number called what) (called_alike (string_bytes partner)) told
+  of_alike state rows (about.Container container) what told =
+      told ∙ (λ i. container_told (record { terminal = one.terminal; codes = one.codes; partners = says.partners i; blocks = one.blocks; visit_limit = one.visit_limit }) state container)
+  of_alike state rows about.Partners what told = subst (λ accounts. TellsPartners rows accounts what) says.partners told
+  of_alike state rows about.Blocks what told = told
+  of_alike state rows about.Calls what told = told
+  of_alike state rows (about.Work call side) what told = told
+  of_alike state rows (about.Contrl partner number) what told =
+      told ∙ ap (contrl_for_partner rows (string_bytes partner) number) (called_alike (string_bytes partner))
+  of_alike state rows about.Picture what told =
       (told.0, told.1, subst (λ blocks. IsPicture state other.terminal blocks told.0) says.blocks (subst (λ name. IsPicture state name one.blocks told.0) says.terminal told.2))
-  of_alike state rows (query.Partner code) found told =
-      subst (λ accounts. TellsPartner rows accounts (partner_called other (string_bytes code)) found) says.partners
-      (subst (λ called. TellsPartner rows one.partners called found) (called_alike (string_bytes code)) told)
-  of_alike state rows (query.Next code) found told =
-      subst (λ called. TellsNext rows called found) (called_alike (string_bytes code)) told
-  of_alike state rows query.Health found told = told
-  of_alike state rows query.Metrics found told = (
+  of_alike state rows (about.Partner code) what told =
+      subst (λ accounts. TellsPartner rows accounts (partner_called other (string_bytes code)) what) says.partners
+      (subst (λ called. TellsPartner rows one.partners called what) (called_alike (string_bytes code)) told)
+  of_alike state rows (about.Next code) what told =
+      (told.0, subst (λ called. TellsNext rows called told.0) (called_alike (string_bytes code)) told.1, told.2)
+  of_alike state rows about.Health what told = told
+  of_alike state rows about.Metrics what told = (
+    told.0,
+    (
+      told.1.0,
+      subst (λ accounts. AreLookedUp rows 1 accounts told.1.0) says.partners told.1.1,
+      told.1.2 ∙ ap (λ limit. Some (metrics_text program_version tables_version state limit told.1.0)) says.limit,
+    ),
+    told.2,
+  )
+  of_alike state rows about.Start what told = (
     told.0,
     subst (λ accounts. AreLookedUp rows 1 accounts told.0) says.partners told.1,
-    told.2 ∙ ap (λ limit. Some (metrics_text program_version tables_version state limit told.0)) says.limit,
+    (
+      told.2.0,
+      told.2.1,
+      told.2.2 ∙ (λ i. Some (value.start (says.terminal i) (record { visits = length state.visits; limit = says.limit i; partners = partners_of told.0; lists = lists_in (finite_map.entries state.lines); blocks = told.2.0 }))),
+    ),
   )
+  of_alike state rows (about.Expected container) what told = told
+  of_alike state rows (about.Block letter) what told = told
+  of_alike state rows (about.Find typed) what told =
+      told ∙ ap (λ called. Some (value.found (string_bytes typed) state.visits (option_map (λ (id : ℕ). string_bytes typed) called) (lists_in (finite_map.entries state.lines)))) (called_alike (string_bytes typed))
 
 module _ (one other : SetupContent) (says : SaysSame one other) where
-  pub after_alike : (es : List Event) (asked : Query) (found : Option (List ℕ)) → TellsAfter one es asked found → TellsAfter other es asked found
-  after_alike es asked found told =
+  after_alike : (es : List Event) (asked : About) (what : Option ReportContent) → TellsAfter one es asked what → TellsAfter other es asked what
+  after_alike es asked what told =
       let alike = answers_alike one other says es in
       record {
         rows = told.rows;
         after = alike.rows told.rows told.after;
-        tells = subst (λ state. TellsOf (content_after other es) state told.rows asked found) alike.terminal
-            (of_alike (content_after one es) (content_after other es) (now_alike one other says es) _ told.rows asked found told.tells);
+        tells = subst (λ state. TellsAbout (content_after other es) state told.rows asked what) alike.terminal
+            (of_alike (content_after one es) (content_after other es) (now_alike one other says es) _ told.rows asked what told.tells);
       }
+
+  pub found_alike : (es : List Event) (asked : Query) (found : Option (List ℕ)) → FindsAfter one es asked found → FindsAfter other es asked found
+  found_alike es asked found told = (told.0, after_alike es asked.about told.0 told.1, told.2)
 
 -- an office of which nothing is closed is a whole one
 whole_loads : (db : Database) (content : SetupContent) (terminal : TerminalState) → LoadsOwn nothing_closed db content terminal → Loads db content terminal
