@@ -91,10 +91,10 @@ returns-in-Some-clause-ok c names store archive =
     let marked = subst (λ s. IsMarkedAs copy.register.closed_for s c.mark_of-mark.result) (sym store) c.mark_of-mark.ensures in
     let may : (sound.is_sound (raised_by names.archive lists taken sealed copy) ≡ true) × (sound.is_file_name names.store ≡ true) = elim c.if-branch.branch [
       | then-branch v ↦ (
-        (let same = ap sound.is_sound is_raised in cc (same, v.if-branch.true, c.in_ok-may.ensures)),
-        (let same = ap sound.is_file_name store in cc (same, c.if-may.true, v.may-is, v.is_file_name-may.ensures)),
+        sym (ap sound.is_sound is_raised) ∙ sym c.in_ok-may.ensures ∙ v.if-branch.true,
+        ap sound.is_file_name (store ∙ sym v.as_bytes.ensures.value) ∙ sym v.is_file_name-may.ensures ∙ sym v.may-is ∙ c.if-may.true,
       )
-      | else-branch v ↦ cc (c.if-may.true, v.may-is)
+      | else-branch v ↦ absurd (false≢true (sym v.may-is ∙ c.if-may.true))
     ] in
     let told = taken_told own copy names lists taken for sealed with_ c.tells_same-is_same.result c.tells_same-has_archive.result c.mark_of-mark.result (register_content c.in_ok-raised.raised) c.requires.unclosed c.tells_same-is_same.ensures is_raised c.tells_same-has_archive.ensures marked come c.in-Some.ensures in
     let its = sealed_told own copy names lists taken for sealed with_ c.tells_same-is_same.result c.tells_same-has_archive.result c.mark_of-mark.result (register_content c.in_ok-raised.raised) c.requires.unclosed c.tells_same-is_same.ensures is_raised c.tells_same-has_archive.ensures marked come c.in-Some.ensures in
