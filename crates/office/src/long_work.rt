@@ -1,14 +1,19 @@
 use crate::causes::stderr_is_terminal;
+use office_closing::Onlooker;
 use office_commands::tell;
 use office_replies::Port;
+use std::cell::Cell;
 use std::fs;
 use std::io::{IsTerminal, Result, Write};
+
+/// After how many interchanges, visits or lists a person is shown how far a closing is.
+const STEP: u64 = 1000;
 
 /// A megabyte, as people count it.
 const MEGABYTE: u64 = 1_000_000;
 
-/// Work over a whole store, which takes long where the store is large. No step of it hands control back, so a line comes before
-/// it, for a person, by the size of the store's file.
+/// Work over a whole store, which takes long where the store is large. A line comes before it, for a person, by the size of the
+/// store's file.
 #[derive(Clone, Copy)]
 pub(crate) struct Work {
     name: &'static str,
@@ -59,6 +64,54 @@ pub(crate) fn tell_long<E: Write>(rt: &HostRuntime, errors: &mut Port<E>, work: 
         "{name} {path}, {megabytes} MB: this may take {seconds} s\n"
     ) {
         tell(errors, text.as_str());
+    }
+}
+
+/// Shows a person how many interchanges a closing has compared, and how many interchanges, visits and lists it has deleted.
+#[derive(Drop)]
+pub(crate) struct ClosingWatch<'a> {
+    rt: &'a HostRuntime,
+    is_on: bool,
+    compared: Cell<u64>,
+    deleted: Cell<u64>,
+}
+
+impl<'a> ClosingWatch<'a> {
+    /// Of a closing that begins.
+    pub(crate) fn new(rt: &'a HostRuntime) -> ClosingWatch<'a> {
+        ClosingWatch {
+            rt,
+            is_on: stderr_is_terminal(rt),
+            compared: Cell::new(0),
+            deleted: Cell::new(0),
+        }
+    }
+
+    /// Ends the line on which it was shown, if it was.
+    pub(crate) fn end(&self) {
+        if self.is_on && self.compared.get().max(self.deleted.get()) >= STEP {
+            let _ = eprintln!(self.rt; "");
+        }
+    }
+
+    /// Counts more of something, and shows how many there are, with each thousand more.
+    fn count(&self, of: &Cell<u64>, more: usize, what: &str) {
+        let before = of.get();
+        let now = before.saturating_add(more as u64);
+        of.set(now);
+        if self.is_on && now / STEP > before / STEP {
+            let _ = eprint!(self.rt; "{now} {what}\r");
+        }
+    }
+}
+
+impl Onlooker for ClosingWatch<'_> {
+    fn compared(&self) {
+        self.count(&self.compared, 1, "interchanges compared");
+    }
+
+    fn deleted(&self, count: usize) {
+        self.count(&self.deleted, count, "rows and lists deleted");
     }
 }
 
