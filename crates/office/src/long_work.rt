@@ -1,12 +1,12 @@
 use crate::causes::stderr_is_terminal;
-use office_closing::Onlooker;
 use office_commands::tell;
+use office_loading::{Onlooker, Step};
 use office_replies::Port;
 use std::cell::Cell;
 use std::fs;
 use std::io::{IsTerminal, Result, Write};
 
-/// After how many interchanges, visits or lists a person is shown how far a closing is.
+/// After how many interchanges, visits or lists a person is shown how far work is.
 const STEP: u64 = 1000;
 
 /// A megabyte, as people count it.
@@ -67,21 +67,23 @@ pub(crate) fn tell_long<E: Write>(rt: &HostRuntime, errors: &mut Port<E>, work: 
     }
 }
 
-/// Shows a person how many interchanges a closing has compared, and how many interchanges, visits and lists it has deleted.
+/// Shows a person how far work on a store is: how many interchanges, visits and lists went through its steps.
 #[derive(Drop)]
-pub(crate) struct ClosingWatch<'a> {
+pub(crate) struct WorkWatch<'a> {
     rt: &'a HostRuntime,
     is_on: bool,
+    copied: Cell<u64>,
     compared: Cell<u64>,
     deleted: Cell<u64>,
 }
 
-impl<'a> ClosingWatch<'a> {
-    /// Of a closing that begins.
-    pub(crate) fn new(rt: &'a HostRuntime) -> ClosingWatch<'a> {
-        ClosingWatch {
+impl<'a> WorkWatch<'a> {
+    /// Of work that begins.
+    pub(crate) fn new(rt: &'a HostRuntime) -> WorkWatch<'a> {
+        WorkWatch {
             rt,
             is_on: stderr_is_terminal(rt),
+            copied: Cell::new(0),
             compared: Cell::new(0),
             deleted: Cell::new(0),
         }
@@ -89,7 +91,8 @@ impl<'a> ClosingWatch<'a> {
 
     /// Ends the line on which it was shown, if it was.
     pub(crate) fn end(&self) {
-        if self.is_on && self.compared.get().max(self.deleted.get()) >= STEP {
+        let most = self.copied.get().max(self.compared.get());
+        if self.is_on && most.max(self.deleted.get()) >= STEP {
             let _ = eprintln!(self.rt; "");
         }
     }
@@ -105,13 +108,13 @@ impl<'a> ClosingWatch<'a> {
     }
 }
 
-impl Onlooker for ClosingWatch<'_> {
-    fn compared(&self) {
-        self.count(&self.compared, 1, "interchanges compared");
-    }
-
-    fn deleted(&self, count: usize) {
-        self.count(&self.deleted, count, "rows and lists deleted");
+impl Onlooker for WorkWatch<'_> {
+    fn passed(&self, step: Step, count: usize) {
+        match step {
+            Step::Copying => self.count(&self.copied, count, "interchanges copied"),
+            Step::Comparing => self.count(&self.compared, count, "interchanges compared"),
+            Step::Deleting => self.count(&self.deleted, count, "rows and lists deleted"),
+        }
     }
 }
 

@@ -7,11 +7,12 @@ ghost use Rattle.office_rows.specs.Tables.{no_schema};
 ghost use Rattle.sqlite.specs.{Held.state, Recovery.Image, State.{HasCleanDisk, Opens}};
 
 use office_closing::{
-    CloseFault, File, FileFault, Onlooker, PutAway, Refusal, close, create_register, read_register,
+    CloseFault, File, FileFault, PutAway, Refusal, close, create_register, read_register,
 };
 use office_commands::{
     beside_path, found_at, has_no_tables, is_there, open_found, open_there, place_of, register_path,
 };
+use office_loading::Onlooker;
 use office_tables::TableFault;
 use sqlite::{Alter, Connection, FileFrom, FileStore, Start, Unknown};
 use std::alloc::{AllocError, Global};

@@ -3,8 +3,9 @@ ghost use Rattle.office_archive_files.specs.Whole.{ClosesWhole};
 ghost use Rattle.office_commands.specs.Whole.{IsLeft};
 
 use crate::closing::{CloseCommandFault, ClosingFile, ClosingFiles, OfFour, close_alike};
-use office_closing::{CloseFault, Onlooker, PutAway};
+use office_closing::{CloseFault, PutAway};
 use office_commands::{Left, leave_whole};
+use office_loading::Onlooker;
 use sqlite::FileStore;
 use sqlite_disk::Disk;
 

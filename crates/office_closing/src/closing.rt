@@ -12,12 +12,12 @@ ghost use Rattle.office_closing.specs.declared.faults.CloseFault.TheVariants as 
 use crate::comparing::Numbers;
 use crate::faults::{CloseFault, File, FileFault};
 use crate::judging::judge;
-use crate::onlooker::Onlooker;
 use crate::planning::{Plan, PutAway, Stage, is_unmarked, is_unraised, put_away};
 use crate::{
     Archive, SealedArchive, Segment, SettledList, characters, close_with, mark, side_code,
 };
 use edi_messages::Call;
+use office_loading::{Onlooker, Step};
 use office_tables::{TableFault, commit, integer};
 use sqlite::{Alter, Connection, Transaction};
 use std::alloc::Global;
@@ -226,7 +226,7 @@ fn clear_numbers<S: Alter, O: Onlooker>(
             to,
         };
         clear_batch(conn, batch)?;
-        onlooker.deleted((to - from) as usize);
+        onlooker.passed(Step::Deleting, (to - from) as usize);
         from = to;
     }
     Ok(())
@@ -286,7 +286,7 @@ pub fn clear_visits<S: Alter, O: Onlooker>(
     while !rest.is_empty() {
         let (batch, behind) = rest.split_at(visit_batch(rest.len()));
         clear_visit_batch(conn, batch)?;
-        onlooker.deleted(batch.len());
+        onlooker.passed(Step::Deleting, batch.len());
         rest = behind;
     }
     Ok(())
@@ -343,7 +343,7 @@ pub fn clear_lists<S: Alter, O: Onlooker>(
     prove!(is_idle);
     for list in lists {
         clear_list(conn, list)?;
-        onlooker.deleted(1);
+        onlooker.passed(Step::Deleting, 1);
     }
     Ok(())
 }

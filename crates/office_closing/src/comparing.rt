@@ -7,8 +7,8 @@ ghost use Rattle.office_tables.specs.{Answers.{HasUnfitReply, IsKept}, Faults.Is
 ghost use Rattle.sqlite.specs.{Held.state, State.HasCleanDisk};
 
 use crate::faults::{File, FileFault};
-use crate::onlooker::Onlooker;
 use crate::sealing::Sealing;
+use office_loading::{Onlooker, Step};
 use office_tables::{Kept, TableFault, kept};
 use sqlite::{Alter, Connection};
 use std::alloc::{AllocError, Global};
@@ -111,7 +111,7 @@ fn compare_numbers<S: Alter, A: Alter, O: Onlooker>(
                 number,
             }));
         }
-        onlooker.compared();
+        onlooker.passed(Step::Comparing, 1);
     }
     sealed_in_memory(sealing.end_partner())?;
     Ok(None)

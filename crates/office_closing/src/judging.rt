@@ -17,13 +17,12 @@ ghost use Rattle.office_closing.specs.declared.faults.CloseFault.TheVariants as 
 use crate::arriving::{Likeness, likeness_of_texts};
 use crate::comparing::{Compared, Numbers, compare};
 use crate::faults::{CloseFault, File, FileFault, Refusal};
-use crate::onlooker::Onlooker;
 use crate::planning::{Opened, Plan, is_unraised, make_plan};
 use crate::sealed_archives::SealedArchive;
 use crate::sealing::seals_of;
 use crate::{Register, lists_waited_for, read_register};
 use office_admission::{MOST_PARTNERS, Setup};
-use office_loading::{Closed, load_own, nexts};
+use office_loading::{Closed, Onlooker, load_own, nexts};
 use office_parts::NamedList;
 use office_tables::TableFault;
 use sqlite::{Alter, Connection};

@@ -19,7 +19,6 @@ pub mod laws;
 mod list_reading;
 mod list_writing;
 mod lists;
-mod onlooker;
 mod planning;
 mod register;
 mod register_closing;
@@ -43,7 +42,6 @@ pub use faults::{CloseFault, File, FileFault, Refusal};
 pub use going::done_lists;
 pub use list_reading::read_list;
 pub use list_writing::{list_text, push_line};
-pub use onlooker::Onlooker;
 pub use planning::{PutAway, are_first_accounts};
 pub use register::{
     Archive, Register, Segment, copied_archive, is_passed, is_same_archive, is_same_segment,
