@@ -1,13 +1,13 @@
 use Rattle.std.proofs.Common.{◌≡◌, ℕ, List, map, rules, ap, ◌∙◌}
 use Rattle.edi_messages.specs.declared.codes.Codes.{Codes}
-use Rattle.serde_json.specs.{Data.{Data, null}, View.view, declared.value.Value.TheVariants.Null}
+use Rattle.serde_json.specs.{Data.{Data, null}, View.view, declared.value.Value.{TheVariants.Null, the_lemmas}}
 use Rattle.office_reports.specs.{Interchanges.{row_content, rows_of}, Last.{LastRowContent, first_kind}, declared.interchanges.MessageRow.MessageRow}
 use Rattle.office_reports.proofs.last.last_row.Goals as goal
 
 pub returns : goal.returns
 returns c =
     let sent : Codes = record { kind = c.args.kind; table = c.args.table.now } in
-    let nothing : view Null ≡ null = search rules in
+    let nothing : view Null ≡ null = search (rules, the_lemmas) in
     let own : c.for_kind-codes.result ≡ sent =
     λ i. record { kind = c.for_kind-codes.ensures.kind i; table = c.for_kind-codes.ensures.table i } in
     let rows : map row_content c.in_ok-messages.messages.items ≡ rows_of sent c.args.arrival.now.text.items null =
