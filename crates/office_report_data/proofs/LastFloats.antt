@@ -4,7 +4,7 @@ use Rattle.serde_json.specs.{Data.{Data, string}, View.items_of, Written.{has_fl
 use Rattle.box6346.specs.declared.size_type.SizeType.{SizeType}
 use Rattle.edi_messages.specs.{Message.{LineContent, MessageContent}, declared.message.MessageFault.MessageFault}
 use Rattle.office_reports.specs.{Interchanges.{FactsContent, InterchangeContent, MessageRowContent, OutcomeContent, facts_of}, Last.{LastRowContent, SettledContent}}
-use Rattle.office_report_data.specs.Interchanges.{call_data, interchange_data, line_data, lines_data, load_data, message_data, outcome_data, read_data}
+use Rattle.office_report_data.specs.Interchanges.{call_data, interchange_data, line_data, line_object, lines_data, load_data, message_data, outcome_data, read_data}
 use Rattle.office_report_data.specs.{Last.{kind_data, last_row_data, settled_data}, Words.or_null}
 use Rattle.office_report_data.proofs.FloatLemmas.{number_has_none, option_has_none, text_has_none}
 
@@ -32,6 +32,7 @@ load_has_none None is_laden = refl
 load_has_none (Some size_type) is_laden = refl
 
 line_has_none : (place : ℕ) (facts : FactsContent) (outcome : Option OutcomeContent) → has_float (line_data place facts outcome) ≡ false
+unfolding line_object
 line_has_none place facts outcome =
     rw (text_has_none facts.booking) (rw (option_has_none _ facts.container (λ number. refl))
     (rw (option_has_none _ facts.fault (λ why. refl)) (rw (number_has_none facts.kilos)

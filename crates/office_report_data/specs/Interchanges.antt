@@ -5,7 +5,7 @@ use Rattle.edi_syntax.specs.Moments.{CivilMoment, moment_text}
 use Rattle.edi_messages.specs.{Message.{LineContent, MessageContent}, Purposes.CallContent, declared.line.LineFault.LineFault}
 use Rattle.edi_messages.specs.declared.message.MessageFault.{MessageFault}
 use Rattle.office_replies.specs.Names.{message_fault_name}
-use Rattle.serde_json.specs.{Data.{Data, array, boolean, null, string, number, unsigned, object, member, no_members}, View.items_of}
+use Rattle.serde_json.specs.{Data.{Data, array, boolean, null, string, number, unsigned, object, member, no_members, put, Members}, View.items_of}
 use Rattle.office_reports.specs.{InterchangeLines.{kind_name, line_fault_name}, Interchanges.{FactsContent, InterchangeContent, MessageRowContent, OutcomeContent, facts_of}}
 use Rattle.office_reports.specs.Names.{slot_name}
 use Rattle.office_report_data.specs.{Rows.rows_data, Words.{container_or_null, load_word, number_or_null, or_null, text_or_null}}
@@ -21,7 +21,7 @@ abbrev pub load_data : Option SizeType → Bool → Data
 load_data None is_laden = null
 load_data (Some size_type) is_laden = string (load_word is_laden)
 
-abbrev pub line_object : (place : ℕ) → FactsContent → (outcome : Data) → Data
+unfoldable pub line_object : (place : ℕ) → FactsContent → (outcome : Data) → Data
 line_object place facts outcome =
     object (member (codes "booking") (text_or_null facts.booking) (member (codes "container") (container_or_null facts.container)
     (member (codes "fault") (or_null (λ why. string (line_fault_name why)) facts.fault)
@@ -68,3 +68,25 @@ interchange_data report =
     (member (codes "next") (or_null (λ next. number (unsigned next)) report.next)
     (member (codes "number") (number (unsigned report.number)) (member (codes "partner") (string report.code)
     (member (codes "text") (string (encode_utf8_all report.text)) no_members)))))
+
+-- ---- as the code has it
+
+-- an object's members, with these among them: a line's number, and what became of it
+unfoldable pub with_place : (place : ℕ) → (outcome : Data) → Members → Members
+with_place place outcome members = put (codes "outcome") outcome (put (codes "line") (number (unsigned (place + 1))) members)
+
+-- with these among them: which container a line is about, and why it gives no order
+unfoldable pub with_container : FactsContent → Members → Members
+with_container facts members =
+    put (codes "size_type") (or_null (λ (size_type : SizeType). string size_type) facts.size_type)
+    (put (codes "load") (load_data facts.size_type facts.is_laden)
+    (put (codes "fault") (or_null (λ why. string (line_fault_name why)) facts.fault)
+    (put (codes "container") (container_or_null facts.container) members)))
+
+-- with these among them: what else a line states
+unfoldable pub with_stated : FactsContent → Members → Members
+with_stated facts members =
+    put (codes "slot") (or_null (λ slot. string (slot_name slot)) facts.slot)
+    (put (codes "port") (text_or_null facts.port)
+    (put (codes "moment") (or_null (λ moment. string (moment_text moment)) facts.moment)
+    (put (codes "gross") (number_or_null facts.kilos) (put (codes "booking") (text_or_null facts.booking) members))))

@@ -11,4 +11,6 @@ pub mod Calls
 pub mod Partners
 pub mod Blocks
 pub mod Tickets
+pub mod Interchanges
+pub mod Last
 pub mod Told

@@ -2,13 +2,14 @@
 ghost use Rattle.edi_messages.specs.Owned.{call_content, line_content};
 ghost use Rattle.office_replies.specs.Names.{message_fault_name};
 ghost use Rattle.office_report_data.specs.Interchanges.{call_data, interchange_data, line_object, lines_data, load_data, message_data, message_object, outcome_data};
+ghost use Rattle.office_report_data.specs.Interchanges.{with_container, with_place, with_stated};
 ghost use Rattle.office_report_data.specs.{Rows.rows_data, Words.or_null};
 ghost use Rattle.office_reports.specs.{InterchangeLines.{kind_name, line_fault_name}, Interchanges.{facts_content, interchange_content, outcome_content, row_content}};
 ghost use Rattle.office_reports.specs.Names.{slot_name};
 ghost use Rattle.box6346.specs.declared.size_type.SizeType.{SizeType};
 ghost use Rattle.edi_syntax.specs.Moments.{moment_text};
-ghost use Rattle.serde_json.specs.{Data.{array, null, number, string, unsigned}, View.{items_of, view}, Written.compact_text};
-ghost use Rattle.std.specs.{Option.option_map, Prelude.{◌≡◌, ◌+◌, ◌<◌, ◌^◌, [], false, map, slice_get, string_bytes, IfOk}};
+ghost use Rattle.serde_json.specs.{Data.{array, null, number, string, unsigned}, View.{items_of, members_view, view}, Written.compact_text};
+ghost use Rattle.std.specs.{Option.option_map, Prelude.{◌≡◌, ◌+◌, ◌<◌, ◌^◌, [], false, map, slice_get, string_bytes, IfOk, OnOk}};
 
 use crate::words::{container_or_null, load_word, number_or_null, text_or_null};
 use box6346::{SizeType, Slot};
@@ -19,7 +20,7 @@ use office_reports::texts::{moment_text, size_text, slot_text};
 use office_reports::{
     InterchangeReport, LineFacts, LineOutcome, MessageRow, facts_of, kind_name, line_fault_name,
 };
-use serde_json::{Value, json};
+use serde_json::{Map, Value, json, put};
 use std::alloc::{AllocError, Global};
 
 /// The report as JSON: an object of `messages`, `next` (the number that it waits for, or `null`), `number`, `partner` and
@@ -146,7 +147,7 @@ fn lines_value(
     let mut place = 0;
     for line in lines {
         let outcome = outcome_value(alloc, outcome_at(outcomes, place))?;
-        values.push(line_value(alloc, place, &facts_of(line), &outcome)?)?;
+        values.push(line_value(alloc, place, &facts_of(line), outcome)?)?;
         place += 1;
     }
     Ok(Value::Array(values))
@@ -188,33 +189,73 @@ fn line_value(
     alloc: Global,
     place: usize,
     facts: &LineFacts<'_>,
-    outcome: &Value,
+    outcome: Value,
 ) -> Result<Value, AllocError>
     requires { place + 1 < 2 ^ 64 }
-    ensures { IfOk result (λ value. view value ≡ line_object place (facts_content facts.now) (view outcome.now)) }
+    ensures { IfOk result (λ value. view value ≡ line_object place (facts_content facts.now) (view outcome)) }
 {
-    let booking = text_or_null(alloc, facts.booking)?;
+    let mut members = Map::new(alloc);
+    put_place(alloc, &mut members, place, outcome)?;
+    put_container(alloc, &mut members, facts)?;
+    put_stated(alloc, &mut members, facts)?;
+    Ok(Value::Object(members))
+}
+
+/// Puts a line's number, and what became of it, among the members of an object.
+#[tactic(auto, unfolding(crate::specs::Interchanges::with_place))]
+fn put_place(
+    alloc: Global,
+    members: &mut Map<String, Value>,
+    place: usize,
+    outcome: Value,
+) -> Result<(), AllocError>
+    requires { place + 1 < 2 ^ 64 }
+    ensures { OnOk result (members_view members.new.entries
+        ≡ with_place place (view outcome) (members_view members.old.entries)) }
+{
+    put(members, alloc, "line", Value::from(place + 1))?;
+    put(members, alloc, "outcome", outcome)
+}
+
+/// Puts which container a line is about, and why it gives no order, among the members of an object.
+#[tactic(auto, unfolding(crate::specs::Interchanges::with_container))]
+fn put_container(
+    alloc: Global,
+    members: &mut Map<String, Value>,
+    facts: &LineFacts<'_>,
+) -> Result<(), AllocError>
+    ensures { OnOk result (members_view members.new.entries
+        ≡ with_container (facts_content facts.now) (members_view members.old.entries)) }
+{
     let container = container_or_null(alloc, facts.container)?;
     let fault = fault_or_null(alloc, facts.fault)?;
-    let gross = number_or_null(facts.kilos);
     let load = load_or_null(alloc, facts.size_type, facts.is_laden)?;
+    let size_type = size_or_null(alloc, facts.size_type)?;
+    put(members, alloc, "container", container)?;
+    put(members, alloc, "fault", fault)?;
+    put(members, alloc, "load", load)?;
+    put(members, alloc, "size_type", size_type)
+}
+
+/// Puts what else a line states among the members of an object.
+#[tactic(auto, unfolding(crate::specs::Interchanges::with_stated))]
+fn put_stated(
+    alloc: Global,
+    members: &mut Map<String, Value>,
+    facts: &LineFacts<'_>,
+) -> Result<(), AllocError>
+    ensures { OnOk result (members_view members.new.entries
+        ≡ with_stated (facts_content facts.now) (members_view members.old.entries)) }
+{
+    let booking = text_or_null(alloc, facts.booking)?;
     let moment = moment_or_null(alloc, facts.moment)?;
     let port = text_or_null(alloc, facts.port)?;
-    let size_type = size_or_null(alloc, facts.size_type)?;
     let slot = slot_or_null(alloc, facts.slot)?;
-    json!(in alloc; {
-        "booking": &booking,
-        "container": &container,
-        "fault": &fault,
-        "gross": &gross,
-        "line": place + 1,
-        "load": &load,
-        "moment": &moment,
-        "outcome": outcome,
-        "port": &port,
-        "size_type": &size_type,
-        "slot": &slot
-    })
+    put(members, alloc, "booking", booking)?;
+    put(members, alloc, "gross", number_or_null(facts.kilos))?;
+    put(members, alloc, "moment", moment)?;
+    put(members, alloc, "port", port)?;
+    put(members, alloc, "slot", slot)
 }
 
 fn fault_or_null(alloc: Global, fault: Option<LineFault>) -> Result<Value, AllocError>

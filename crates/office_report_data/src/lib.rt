@@ -6,6 +6,8 @@ mod archives;
 mod blocks;
 mod calls;
 mod containers;
+mod interchanges;
+mod last;
 mod lists;
 mod partners;
 mod rows;
@@ -21,6 +23,8 @@ pub use archives::with_archives;
 pub use blocks::{blocks_csv, blocks_json};
 pub use calls::{calls_csv, calls_json};
 pub use containers::container_json;
+pub use interchanges::interchange_json;
+pub use last::{last_csv, last_json};
 pub use lists::{list_csv, list_json};
 pub use partners::{partner_json, partners_csv, partners_json};
 pub use shown::{
