@@ -15,7 +15,7 @@ use Rattle.office_reports.specs.{Work.{JobContent, WorkContent, is_open_entry, j
 use Rattle.office_reports.specs.declared.query.NotNow.{NotNow}
 use Rattle.office_report_data.specs.Told.{ReportContent, shown}
 use Rattle.office_history.{specs.After.{machine_after, content_after}, proofs.Loads.lines_same}
-use Rattle.office_parts.specs.{Archives.{Archive, archive_of}, Parts.{Archived, ArePartsAfter}, Away.{AreAway, lines_away}, Bringing.{is_list, is_of, lines_of}}
+use Rattle.office_parts.specs.{Archives.{Archive, archive_of}, Parts.{Archived, ArePartsAfter}, Away.AreAway, Bringing.{is_list, is_of, lines_of}}
 use Rattle.office_parts.specs.{OwnLists.{ListName, list_name, list_of, rows_without_lists, without_lists}, OwnTerminal.{MayStay, own_terminal}}
 use Rattle.office_parts.proofs.{KeepingLemmas.away_done, Takings.{own_rows, visits_same}}
 use Rattle.office_archives.specs.{ListsAway.{AreLinesIfAway, TellsByLines, FindsIfAway}, Keeping.IsClosedIn, Together.{StandTogether, TellsBeside}}
