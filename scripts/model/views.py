@@ -139,18 +139,14 @@ def work(office, vessel, voyage, side):
         side=side, vessel=vessel, voyage=voyage)
 
 
-def own_calls(office):
-    """A row for each list that has a line, by vessel, voyage and side, load before discharge."""
+def calls(office):
+    """A row for each list that has a line in the store, by vessel, voyage and side, load before discharge; and how many archives
+    there are, if lists were put away."""
     lines, rows = own_lines(office), []
     for call, _is_second, side in sorted({(call, side == 'discharge', side) for call, side, _number in lines}):
         done = [line.is_done for (of_call, of_side, _number), line in lines.items() if (of_call, of_side) == (call, side)]
         rows.append(dict(done=done.count(True), open=done.count(False), side=side, vessel=call[0], voyage=call[1]))
-    return dict(rows=rows)
-
-
-def calls(office):
-    """The same, and how many archives there are, if lists were put away."""
-    told = own_calls(office)
+    told = dict(rows=rows)
     return with_archives(office, told) if office.register.lists else told
 
 
@@ -213,7 +209,7 @@ def ticket(office, partner_code, number):
 
 OBJECTS = {
     'yard': yard, 'container': container, 'visits': visits, 'list': vessel_list, 'work': work, 'calls': calls,
-    'own calls': own_calls, 'partners': partners, 'partner': partner, 'blocks': blocks, 'ticket': ticket}
+    'partners': partners, 'partner': partner, 'blocks': blocks, 'ticket': ticket}
 
 
 def json_of(office, kind, *values):
@@ -234,7 +230,6 @@ COLUMNS = {
         'visit size_type load'.split() + ['entry_' + name for name in PASSAGE] + 'slot booking gross'.split()
         + ['exit_' + name for name in PASSAGE] + ['days']),
     'calls': 'vessel voyage side open done'.split(),
-    'own calls': 'vessel voyage side open done'.split(),
     'partners': 'code kind next waiting_count waiting_first waiting_last'.split(),
     'blocks': 'block bays rows tiers cells used twenties forties under highest'.split(),
 }

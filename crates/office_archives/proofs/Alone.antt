@@ -17,7 +17,7 @@ use Rattle.office_report_data.specs.Told.{ReportContent, shown}
 use Rattle.office_loading.specs.Closed.{last_closed}
 use Rattle.office_history.specs.After.{machine_after}
 use Rattle.office_rows.specs.Rows.{Rows}
-use Rattle.office_archives.specs.{Standing.{IsBeyond, NamesNoneAway, StandsBeside}, Telling.{AreAsked, IsOfNumber, TellsTogether, shown_beside}}
+use Rattle.office_archives.specs.{Standing.{IsBeyond, NamesNoneAway, StandsBeside}, Telling.{AreAsked, IsOfNumber, SaysIfAway, TellsTogether, shown_beside}}
 use Rattle.office_archives.{specs.Together.{LeadsTogether, LooksTogether, ShowsBeside, TellsBeside}, proofs.{Noted.{asked_end, no_note}, Together.looks_on}}
 use Rattle.office_archives.proofs.Beside.{calls_beside, container_beside, expected_beside, here_beside, list_beside, neither_beside, nobody_beside, number_beside, tells_so}
 use Rattle.office_archives.proofs.Standing.{beyond_answered, beyond_left}
@@ -91,6 +91,9 @@ zero_or_above n = by (nat_le 1 n && nat_le n 0) refl
         absurd (omega (arith, low, high))
     by false e = refl
 
+none_put_away : (list : List Archive) → list ≡ [] → SaysIfAway list false
+none_put_away list none = record { none = λ e name. ap (λ l. lines_away l name) none; some = λ e. let never : false ≡ true = e in absurd cc }
+
 module _ {S A : Type 0} (g : Ghosts S) (are : List Archive → A → Type 0) (old : Desk S g) (a : A) (empty : (list : List Archive) → are list a → list ≡ []) where
   -- what a number's partner has, whoever that is
   number_alone : (asked : Query) (code : List ℕ) (n : ℕ) (found : Option (List ℕ)) → IsOfNumber asked.about code n → ((rows : Rows) (terminal : TerminalState) (what : Option ReportContent) → TellsAbout (setup_content old.setup) terminal rows asked.about what → partner_called (setup_content old.setup) code ≡ None → option_map (shown asked.view) what ≡ None)
@@ -133,7 +136,7 @@ module _ {S A : Type 0} (g : Ghosts S) (are : List Archive → A → Type 0) (ol
   tells_alone (about.Container container) view found sound told =
       container_beside g are old a (record { about = about.Container container; view = view }) found found 0 tt (λ list these. sym (ap length (empty list these))) told (nothing_beside view found)
   tells_alone about.Calls view found sound told =
-      calls_beside g are old a view found found false 0 (λ e list these name. ap (λ l. lines_away l name) (empty list these)) (λ e list these. let never : false ≡ true = e in absurd cc) (λ list these. refl) told (nothing_beside view found)
+      calls_beside g are old a view found found 0 (λ list these. (false, none_put_away list (empty list these), refl)) told (nothing_beside view found)
   tells_alone (about.List call side) view found sound told =
       list_beside g are old a old (record { about = about.List call side; view = view }) (call_content call) side found (refl, refl) sound (looks_nowhere g old)
       (λ list content es these stands. away_none list stands.away content es stands.own (empty list these) stands.lists (list_name (call_content call) side)) told

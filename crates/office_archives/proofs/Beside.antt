@@ -1,13 +1,6 @@
 -- What desk and archives tell, from whatever events after which they stand.
-<<<<<<< HEAD
 use Rattle.std.specs.{Prelude.{Contains, IsPermutation, filter, ◌&&◌, is_some, nat_le, String}, Ordering.eq_by_cmp, declared.alloc.Global.Global}
-use Rattle.std.proofs.Common.{◌≡◌, ℕ, List, [], ◌∷◌, ◌++◌, Bool, true, false, cond, Option, Some, map, refl, sym, ap, subst, ◌∙◌, ◌<◌, ◌≤◌, length, None, Result, Ok, Err, arith}
-=======
-use Rattle.std.specs.Prelude.{Contains, IsPermutation, filter, ◌&&◌, is_some, nat_le, String}
-use Rattle.std.specs.Ordering.{eq_by_cmp}
-use Rattle.std.specs.declared.alloc.Global.{Global}
 use Rattle.std.proofs.Common.{◌≡◌, count_by, option_map, ℕ, List, [], ◌∷◌, Bool, true, false, cond, Option, Some, map, refl, sym, ap, subst, ◌∙◌, ◌<◌, ◌≤◌, length, None, Result, Ok, Err, arith}
->>>>>>> ae65be05
 use Rattle.std.proofs.{lemmas.List.Elements.Contains-append_right, lemmas.List.Sorted.IsPermutation-sym, lemmas.Bool.{leb-false, leb-true, and_parts}}
 use Rattle.box6346.specs.declared.box_number.BoxNumber.{BoxNumber}
 use Rattle.edi_messages.specs.{Owned.call_content, Purposes.CallContent, declared.call.Call.Call}
@@ -22,20 +15,11 @@ use Rattle.office_reports.specs.{Work.{JobContent, WorkContent, is_open_entry, j
 use Rattle.office_reports.specs.declared.query.NotNow.{NotNow}
 use Rattle.office_report_data.specs.Told.{ReportContent, shown}
 use Rattle.office_history.{specs.After.{machine_after, content_after}, proofs.Loads.lines_same}
-use Rattle.office_parts.specs.{Archives.{Archive, archive_of}, Parts.{Archived, ArePartsAfter}, Away.{AreAway, lines_away}, Bringing.{is_list, is_of, lines_of}}
+use Rattle.office_parts.specs.{Archives.{Archive, archive_of}, Parts.{Archived, ArePartsAfter}, Away.AreAway, Bringing.{is_list, is_of, lines_of}}
 use Rattle.office_parts.specs.{OwnLists.{ListName, list_name, list_of, rows_without_lists, without_lists}, OwnTerminal.{MayStay, own_terminal}}
 use Rattle.office_parts.proofs.{KeepingLemmas.away_done, Takings.{own_rows, visits_same}}
 use Rattle.office_archives.specs.{ListsAway.{AreLinesIfAway, TellsByLines, FindsIfAway}, Keeping.IsClosedIn, Together.{StandTogether, TellsBeside}}
-<<<<<<< HEAD
-use Rattle.office_archives.specs.Telling.{IsOfList, SaysIfAway, TellsTogether, IsOfContainer, IsOfNeither, IsOfNumber, TellsClosed, archives_with_lists, with_archives}
-use Rattle.office_archives.proofs.{Brought.kept_so, Standing.{closed_here, closed_told}}
-use Rattle.office_archives.proofs.Filled.{Entry, first_in, listed_alike, filled_container, filled_list, filled_neither, filled_number, filled_visits}
-use Rattle.office_archives.proofs.Told.{container_told, list_told, nobody_told, number_told, others_told}
-use Rattle.sqlite_trees.specs.declared.store.Store.{Ghosts}
-use Rattle.office_loading.specs.Closed.{last_closed}
-use Rattle.office_desk.specs.{Calls.OnlyLooks, Desks.IsSound, Offices.DeskHolds, Reports.{DeskTells, TellsOf, partner_called}, declared.desk.Desk.Desk}
-=======
-use Rattle.office_archives.specs.Telling.{AreAsked, AreEnded, IsOfExpected, IsOfList, IsOfWhatIsHere, TellsTogether, TogetherTells, HasListAway, IsOfContainer, IsOfNeither, IsOfNumber, TellsClosed, archives_with_lists, shown_beside, with_note}
+use Rattle.office_archives.specs.Telling.{AreAsked, AreEnded, IsOfExpected, IsOfList, IsOfWhatIsHere, SaysIfAway, TellsTogether, TogetherTells, IsOfContainer, IsOfNeither, IsOfNumber, TellsClosed, archives_with_lists, shown_beside, with_note}
 use Rattle.office_archives.proofs.{Noted.expected_end, Rising.listed_whole, Brought.kept_so, Standing.{closed_here, closed_told}}
 use Rattle.office_archives.proofs.Filled.{Entry, all_looked_up as filled_looked_up, first_in, listed_alike, filled_container, filled_list, filled_neither, filled_number, filled_visits, open_same, yard_listed}
 use Rattle.office_archives.proofs.Told.{accounts_told, container_told, list_told, nobody_told, number_told, others_told}
@@ -45,7 +29,6 @@ use Rattle.office_loading.specs.Closed.{last_closed}
 use Rattle.office_desk.specs.{Calls.OnlyLooks, Desks.IsSound, Offices.DeskHolds, declared.desk.Desk.Desk}
 use Rattle.office_desk.specs.Reports.{DeskTells, Shows, TellsAbout, TellsOf, container_by, partner_called}
 use Rattle.office_report_data.specs.Told as value
->>>>>>> ae65be05
 use Rattle.std.specs.FinMap as finite_map
 use Rattle.office_reports.specs.declared.query.About.TheVariants as about
 
@@ -165,6 +148,9 @@ container_asked content state rows (about.Container container) what is told = su
     by (Some report) = tt
 container_asked content state rows other what is told = absurd is
 
+pub calls_asked : (content : SetupContent) (state : TerminalState) (rows : Rows) (asked : About) (what : Option ReportContent) → asked ≡ about.Calls → TellsAbout content state rows asked what → AreAsked what
+calls_asked content state rows asked what is told = subst AreAsked (sym (subst (λ q. TellsAbout content state rows q what) is told)) tt
+
 module _ {S A : Type 0} (g : Ghosts S) (are : List Archive → A → Type 0) (old : Desk S g) (a : A) where
   abbrev Mine : (content : SetupContent) (es : List Event) → StandTogether g are content es old a → TerminalState
   Mine content es stand = own_terminal stand.stands.archived.stays (machine_after content es).terminal
@@ -278,33 +264,19 @@ module _ {S A : Type 0} (g : Ghosts S) (are : List Archive → A → Type 0) (ol
   here_beside asked found is tells content es stand = here_told content es stand asked.about asked.view found is (told_here content es stand asked found tells)
 
   -- of lists those that are not away, and how many archives there are, if lists were put away
-<<<<<<< HEAD
-  pub calls_beside : (told found : Option (List ℕ)) (count : ℕ) → ((list : List Archive) → are list a → (put_away : Bool) × SaysIfAway list put_away × (count ≡ archives_with_lists list put_away)) → DeskTells g old query.Calls told
-      → found ≡ with_archives count told → TellsBeside g are old a query.Calls found
-  calls_beside told found count counted tells same content es stand =
+  pub calls_beside : (view : View) (told found : Option (List ℕ)) (count : ℕ) → ((list : List Archive) → are list a → (put_away : Bool) × SaysIfAway list put_away × (count ≡ archives_with_lists list put_away))
+      → DeskTells g old (record { about = about.Calls; view = view }) told
+      → ((what : Option ReportContent) → AreAsked what → told ≡ option_map (shown view) what → found ≡ shown_beside count view what) → TellsBeside g are old a (record { about = about.Calls; view = view }) found
+  calls_beside view told found count counted tells same content es stand =
       let s = stand.stands in
       let put = counted stand.list stand.these in
+      let here = told_here content es stand (record { about = about.Calls; view = view }) told tells in
       record {
         away = s.away;
         were_put_away = λ list e. ap is_some (s.lists.kept list e).are;
         put_away = put.0;
         says = put.1;
-        told = same ∙ ap (λ k. with_archives k told) put.2 ∙ ap (with_archives (archives_with_lists stand.list put.0)) (told_here content es stand query.Calls told tells);
-=======
-  pub calls_beside : (view : View) (told found : Option (List ℕ)) (put_away : Bool) (count : ℕ) → (put_away ≡ false → (list : List Archive) → are list a → (name : ListName) → lines_away list name ≡ None) → (put_away ≡ true → (list : List Archive) → are list a → HasListAway list)
-      → ((list : List Archive) → are list a → count ≡ archives_with_lists list put_away) → DeskTells g old (record { about = about.Calls; view = view }) told
-      → ((what : Option ReportContent) → AreAsked what → told ≡ option_map (shown view) what → found ≡ shown_beside count view what) → TellsBeside g are old a (record { about = about.Calls; view = view }) found
-  calls_beside view told found put_away count none some counted tells same content es stand =
-      let s = stand.stands in
-      let here = told_here content es stand (record { about = about.Calls; view = view }) told tells in
-      record {
-        away = s.away;
-        were_put_away = λ list e. ap is_some (s.lists.kept list e).are;
-        put_away = put_away;
-        none = λ e. none e stand.list stand.these;
-        some = λ e. some e stand.list stand.these;
-        told = same here.0 (subst AreAsked (sym here.1) tt) here.2 ∙ ap (λ k. shown_beside k view here.0) (counted stand.list stand.these) ∙ ap (shown_beside (archives_with_lists stand.list put_away) view) here.1;
->>>>>>> ae65be05
+        told = same here.0 (calls_asked _ _ _ about.Calls here.0 refl here.1) here.2 ∙ ap (λ k. shown_beside k view here.0) put.2 ∙ ap (shown_beside (archives_with_lists stand.list put.0) view) here.1;
       }
 
   -- a list that is not away, by a desk that was looked at

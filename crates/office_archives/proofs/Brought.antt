@@ -1,6 +1,6 @@
 -- Lists that are brought back into a store.
-use Rattle.std.specs.{Prelude.{◌&&◌, not, option_map, IsTrue, IsPermutation, String, string_bytes}, declared.alloc.Global.Global}
-use Rattle.std.proofs.Common.{◌≡◌, inl, inr, ℕ, List, [], ◌∷◌, ◌++◌, Bool, true, false, Option, None, Some, Result, Ok, Err, OnOk, refl, sym, ap, subst, ◌∙◌, ◌-◌}
+use Rattle.std.specs.Prelude.{◌&&◌, not, option_map, IsTrue, IsPermutation}
+use Rattle.std.proofs.Common.{◌≡◌, inl, inr, ℕ, List, [], ◌∷◌, ◌++◌, Bool, true, false, Option, None, Some, Result, Ok, Err, OnOk, refl, sym, ap, subst, ◌∙◌}
 use Rattle.sqlite.specs.{Effect.Database, Held.state, State.HasCleanDisk, Tree.Trees}
 use Rattle.sqlite_trees.specs.declared.store.Store.{Ghosts}
 use Rattle.edi_messages.specs.{Owned.call_content, Purposes.CallContent}
@@ -13,16 +13,14 @@ use Rattle.office_history.specs.After.{AreKeptOnce, content_after, machine_after
 use Rattle.office_tables.specs.{declared.table_fault.TableFault.TableFault, Writing.{Commits, WritesWhole}}
 use Rattle.office_reports.specs.{declared.query.About.About, declared.query.Query.Query}
 use Rattle.office_report_data.specs.Told.{ReportContent, shown}
-use Rattle.office_desk.specs.{Beside.IsOrNone, Calls.OnlyLooks, Desks.IsSound, Offices.HoldsOffice, Reports.{DeskTells, TellsAbout, TellsOf, partner_called}}
+use Rattle.office_desk.specs.{Beside.IsOrNone, Calls.OnlyLooks, Desks.IsSound, Offices.HoldsOffice, Reports.{DeskTells, TellsAbout, TellsOf}}
 use Rattle.office_desk.{specs.declared.desk.Desk.Desk, proofs.DeliverLemmas.{office_once, office_with}}
 use Rattle.office_parts.specs.{Archives.Archive, OwnTerminal.own_terminal, Away.{AreAway, lines_away}, Bringing.{BringsBack, all_but, is_list}, Naming.AreHere}
 use Rattle.office_parts.{specs.OwnLists.{ListName, list_name, rows_without_lists, without_lists}, proofs.AwayLemmas.{came_back, none_away, others_stay}}
 use Rattle.office_parts.proofs.{BringingLemmas.brought_back, Writings.own_office_without}
-use Rattle.office_archives.specs.{Bringing.{BringsTogether, StandsWith, lists_back}, ListsAway.{AsksList, FindsIfAway}, Keeping.IsReportIn}
-use Rattle.office_archives.specs.{Standing.{IsOwnWithRest, KnowsClosed, StandsBeside}, Together.{IsBesideAfter, LeavesBeside, StandTogether, TellsOfOne}}
-use Rattle.office_archives.specs.Telling.{AreAsked, IsOfContainer, IsOfNumber, IsPlace, TellsAsStore, TellsByAbout, TellsOwnContainer, TellsOwnNumber, shown_beside}
-use Rattle.office_archives.proofs.{Filled.{no_list, some_list, of_whole}, Together.{looked_stands, rows_left}, Beside.container_asked}
-use Rattle.box6346.specs.declared.box_number.BoxNumber.{BoxNumber}
+use Rattle.office_archives.specs.{Bringing.{BringsTogether, StandsWith, lists_back}, ListsAway.{AsksList, FindsIfAway}}
+use Rattle.office_archives.specs.{Standing.{IsOwnWithRest, KnowsClosed, StandsBeside}, Together.{IsBesideAfter, LeavesBeside}}
+use Rattle.office_archives.proofs.{Filled.{no_list, some_list, of_whole}, Together.{looked_stands, rows_left}}
 use Rattle.office_reports.specs.declared.query.About.TheVariants as about
 
 -- what was put away as these lines is a list of them
@@ -326,77 +324,3 @@ brings_failed g are old new a names others met result fault is brings = subst (�
 pub none_there : (away : ListName → Bool) (names : List ListName) → ((name : ListName) → away name ≡ false) → AreHere away names
 none_there away [] none = tt
 none_there away (name ∷ names) none = (none name, none_there away names none)
-
--- ==== OfArchive: What one archive of a store tells, as the store that it was.
-
--- what is told of a container with so many archives
-container_own : (list : List Archive) (place : ℕ) (asked : Query) (own found : Option (List ℕ)) → IsOfContainer asked.about → IsReportIn list place asked own
-    → ((what : Option ReportContent) → AreAsked what → own ≡ option_map (shown asked.view) what → found ≡ shown_beside (place - 1) asked.view what) → TellsOwnContainer list place asked found
-container_own list place asked own found is told same archive there =
-    let it = told archive there in
-    (it.0, it.1, same it.0 (container_asked it.1.content it.1.terminal archive.rows asked.about it.0 is it.1.tells) it.2)
-
-container_by : (content : SetupContent) (list : List Archive) (place : ℕ) (about_it : About) (asked : Query) (found : Option (List ℕ)) → IsOfContainer about_it → TellsOwnContainer list place asked found → TellsByAbout content list place about_it asked found
-container_by content list place (about.Visits container) asked found is told = told
-container_by content list place (about.Container container) asked found is told = told
-container_by content list place other asked found is told = absurd is
-
-pub container_as : (content : SetupContent) (list : List Archive) (place : ℕ) (asked : Query) (own found : Option (List ℕ)) → IsOfContainer asked.about → IsReportIn list place asked own
-    → ((what : Option ReportContent) → AreAsked what → own ≡ option_map (shown asked.view) what → found ≡ shown_beside (place - 1) asked.view what) → TellsAsStore content list place asked found
-container_as content list place asked own found is told same = container_by content list place asked.about asked found is (container_own list place asked own found is told same)
-
--- the code and the number are those of the query, and this is who has the code
-number_by : (content : SetupContent) (list : List Archive) (place : ℕ) (about_it : About) (asked : Query) (code : List ℕ) (n : ℕ) (called : Option ℕ) (found : Option (List ℕ)) → IsOfNumber about_it code n → partner_called content code ≡ called
-    → TellsOwnNumber list place asked code n called found → TellsByAbout content list place about_it asked found
-number_by content list place (about.Reply partner k) asked code n called found is who told =
-    subst (λ p. TellsOwnNumber list place asked (string_bytes partner) k p found) (sym (ap (partner_called content) is.0 ∙ who))
-    (subst (λ m. TellsOwnNumber list place asked (string_bytes partner) m called found) (sym is.1) (subst (λ c. TellsOwnNumber list place asked c n called found) (sym is.0) told))
-number_by content list place (about.Contrl partner k) asked code n called found is who told =
-    subst (λ p. TellsOwnNumber list place asked (string_bytes partner) k p found) (sym (ap (partner_called content) is.0 ∙ who))
-    (subst (λ m. TellsOwnNumber list place asked (string_bytes partner) m called found) (sym is.1) (subst (λ c. TellsOwnNumber list place asked c n called found) (sym is.0) told))
-number_by content list place (about.Ticket partner k) asked code n called found is who told =
-    subst (λ p. TellsOwnNumber list place asked (string_bytes partner) k p found) (sym (ap (partner_called content) is.0 ∙ who))
-    (subst (λ m. TellsOwnNumber list place asked (string_bytes partner) m called found) (sym is.1) (subst (λ c. TellsOwnNumber list place asked c n called found) (sym is.0) told))
-number_by content list place other asked code n called found is who told = absurd is
-
-<<<<<<< HEAD
-pub neither_as : (content : SetupContent) (list : List Archive) (place : ℕ) (asked : Query) (found : Option (List ℕ)) → ((container : BoxNumber) → asked ≡ query.Visits container → ⊥) → ((container : BoxNumber) → asked ≡ query.Container container → ⊥)
-    → (asked ≡ query.Calls → ⊥)
-    → ((code : String Global) (number : ℕ) → asked ≡ query.Reply code number → ⊥) → ((code : String Global) (number : ℕ) → asked ≡ query.Contrl code number → ⊥) → ((code : String Global) (number : ℕ) → asked ≡ query.Ticket code number → ⊥)
-    → IsReportIn list place asked found → TellsAsStore content list place asked found
-neither_as content list place (query.Visits container) found visits there calls reply contrl ticket told = absurd (visits container refl)
-neither_as content list place (query.Container container) found visits there calls reply contrl ticket told = absurd (there container refl)
-neither_as content list place query.Calls found visits there calls reply contrl ticket told = absurd (calls refl)
-neither_as content list place (query.Reply code n) found visits there calls reply contrl ticket told = absurd (reply code n refl)
-neither_as content list place (query.Contrl code n) found visits there calls reply contrl ticket told = absurd (contrl code n refl)
-neither_as content list place (query.Ticket code n) found visits there calls reply contrl ticket told = absurd (ticket code n refl)
-neither_as content list place other found visits there calls reply contrl ticket told = told
-=======
-pub number_as : (content : SetupContent) (list : List Archive) (place : ℕ) (asked : Query) (code : List ℕ) (n : ℕ) (called : Option ℕ) (found : Option (List ℕ)) → IsOfNumber asked.about code n → partner_called content code ≡ called → TellsOwnNumber list place asked code n called found
-    → TellsAsStore content list place asked found
-number_as content list place asked code n called found is who told = number_by content list place asked.about asked code n called found is who told
-
-neither_by : (content : SetupContent) (list : List Archive) (place : ℕ) (about_it : About) (asked : Query) (found : Option (List ℕ)) → ((container : BoxNumber) → about_it ≡ about.Visits container → ⊥) → ((container : BoxNumber) → about_it ≡ about.Container container → ⊥)
-    → ((code : String Global) (number : ℕ) → about_it ≡ about.Reply code number → ⊥) → ((code : String Global) (number : ℕ) → about_it ≡ about.Contrl code number → ⊥) → ((code : String Global) (number : ℕ) → about_it ≡ about.Ticket code number → ⊥)
-    → IsReportIn list place asked found → TellsByAbout content list place about_it asked found
-neither_by content list place (about.Visits container) asked found visits there reply contrl ticket told = absurd (visits container refl)
-neither_by content list place (about.Container container) asked found visits there reply contrl ticket told = absurd (there container refl)
-neither_by content list place (about.Reply code n) asked found visits there reply contrl ticket told = absurd (reply code n refl)
-neither_by content list place (about.Contrl code n) asked found visits there reply contrl ticket told = absurd (contrl code n refl)
-neither_by content list place (about.Ticket code n) asked found visits there reply contrl ticket told = absurd (ticket code n refl)
-neither_by content list place other asked found visits there reply contrl ticket told = told
-
-pub neither_as : (content : SetupContent) (list : List Archive) (place : ℕ) (asked : Query) (found : Option (List ℕ)) → ((container : BoxNumber) → asked.about ≡ about.Visits container → ⊥) → ((container : BoxNumber) → asked.about ≡ about.Container container → ⊥)
-    → ((code : String Global) (number : ℕ) → asked.about ≡ about.Reply code number → ⊥) → ((code : String Global) (number : ℕ) → asked.about ≡ about.Contrl code number → ⊥) → ((code : String Global) (number : ℕ) → asked.about ≡ about.Ticket code number → ⊥)
-    → IsReportIn list place asked found → TellsAsStore content list place asked found
-neither_as content list place asked found visits there reply contrl ticket told = neither_by content list place asked.about asked found visits there reply contrl ticket told
->>>>>>> ae65be05
-
-module _ {S A : Type 0} (g : Ghosts S) (are : List Archive → A → Type 0) (desk : Desk S g) (a : A) where
-  -- there is one at that place, and it tells so
-  pub told_there : (place : ℕ) (asked : Query) (found : Option (List ℕ)) → ((list : List Archive) → are list a → IsPlace list place)
-      → ((content : SetupContent) (es : List Event) (stand : StandTogether g are content es desk a) → TellsAsStore (content_after content es) stand.list place asked found) → TellsOfOne g are desk a place asked found
-  told_there place asked found there tells content es stand = record {
-    tells = λ is. tells content es stand;
-    nothing = λ none. absurd (none (there stand.list stand.these));
-  }

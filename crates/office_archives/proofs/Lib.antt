@@ -8,6 +8,7 @@ pub mod Brought
 pub mod Told
 pub mod Noted
 pub mod Beside
+pub mod OfArchive
 pub mod Journal
 pub mod PartQuery
 pub mod Sources

@@ -1,21 +1,11 @@
 -- Lists that are put into a register: of each list the lines are those that were put there last.
-<<<<<<< HEAD
-use Rattle.std.specs.{Prelude.{IsTrue, filter, ◌&&◌, ◌==◌, fold, nat_le, nat_lt, ◌-◌, remove, slice_get, slice_index_or}, declared.alloc.Global.Global}
+use Rattle.std.specs.{Prelude.{IsTrue, count_by, filter, ◌&&◌, ◌==◌, fold, nat_le, nat_lt, ◌-◌, remove, slice_get, slice_index_or}, declared.alloc.Global.Global}
 use Rattle.std.specs.{Option.{option_and_then, option_or, unwrap_or}, List.{AllByRecursion, list_all, position, position_or_len}, Str.bytes_eq}
-use Rattle.std.specs.{Cmp.Lexicographic.{bytes_decides, slice_cmp}, Ordering.{is_lt, nat_cmp, ordering_reverse, ordering_then}, Cmp.IsTotalOrder}
+use Rattle.std.specs.{Cmp.Lexicographic.{bytes_decides, slice_cmp}, Ordering.{is_lt, nat_cmp, ordering_reverse, ordering_then}}
 use Rattle.std.proofs.{lemmas.Bool.{and_parts, eqb-true, leb-true, le-leb, leb-false, ltb-true}, lemmas.Bool.Decides.nat_tests, lemmas.List.Edits.length-remove}
 use Rattle.std.proofs.Common.{◌≡◌, ℕ, ◌≤◌, List, true, Option, None, Some, is_some, option_map, string_bytes, String, Result, Ok, Err, IfOk, refl, sym, ap, subst, ◌∙◌, [], ◌∷◌, ◌++◌, Bool, map, false, cond, arith, Ordering, Less, Equal, Greater, is_gt, ◌<◌, drop, length, take, zero, suc}
-use Rattle.std.proofs.{lemmas.Cmp.{nat_cmp_total, nat_list_cmp_total, tied_itself, upto, on_total, then_total}, lemmas.List.{length-append, length-drop}}
+use Rattle.std.proofs.{lemmas.Cmp.{nat_cmp_total, nat_list_cmp_total, tied_itself, upto}, lemmas.List.{length-append, length-drop}}
 use Rattle.std.proofs.{lemmas.List.Quantifiers.position-Some, lemmas.Option.{cond_some, same_Some, slice_get_read}}
-=======
-use Rattle.std.specs.Prelude.{IsTrue, count_by, filter, option_map, ◌&&◌, ◌==◌, fold, nat_le, nat_lt}
-use Rattle.std.specs.Option.{option_and_then, option_or}
-use Rattle.std.specs.{declared.alloc.Global.Global, List.{AllByRecursion, list_all}, Cmp.Lexicographic.{bytes_decides, slice_cmp}, Str.bytes_eq}
-use Rattle.std.{specs.Ordering.{is_lt, nat_cmp, ordering_reverse, ordering_then}, proofs.lemmas.Bool.{and_parts, eqb-true, leb-true}}
-use Rattle.std.proofs.Common.{◌≡◌, length, ℕ, ◌≤◌, List, true, Option, None, Some, is_some, option_map, string_bytes, String, refl, sym, ap, subst, ◌∙◌, [], ◌∷◌, Bool, map, false, cond, arith, Ordering, Less, Equal, Greater, is_gt}
-use Rattle.std.proofs.lemmas.Bool.Decides.{nat_tests}
-use Rattle.std.proofs.lemmas.Cmp.{nat_cmp_total, nat_list_cmp_total, tied_itself, upto}
->>>>>>> ae65be05
 use Rattle.sqlite.specs.{Held.{Held, state}, State.HasCleanDisk}
 use Rattle.sqlite_trees.specs.declared.store.Store.{Ghosts}
 use Rattle.office_rows.specs.{Rows.Rows, Stored.HasRows}
@@ -26,15 +16,9 @@ use Rattle.office_parts.{specs.{Archives.{Archive, archive_of}, OwnTerminal.{own
 use Rattle.office_closing.specs.{Register.register_content, Seals.HasSeals, declared.register.Register.Register, Sound.{are_rising, may_be_list}}
 use Rattle.office_closing.specs.Lists.{SettledListContent, comes_before, is_of_list, lines_of_list, list_cmp, lists_among, put_list, put_lists}
 use Rattle.office_closing.proofs.SoundLemmas.{list_total}
-<<<<<<< HEAD
-use Rattle.office_desk.{specs.Reports.{TellsOf, TellsNext, partner_called}, proofs.Faults.reply_of_kept}
+use Rattle.office_desk.{specs.Reports.{TellsAbout, TellsNext, partner_called}, proofs.Faults.reply_of_kept}
 use Rattle.office_archives.specs.Shelves.{AreSealed, AreShelved, IsLastSound, IsOpenAt, IsOpenIfKnown, IsSealedIfSaid, IsSoundIfAny, IsToldBy, LeavesOpen, NamesAll, OpensFor, ShowsSo, archive_at, left_open, with_room}
 use Rattle.office_archives.specs.{declared.opened.Opened.Opened, Reporting.{IsOfWhatStands, WhatStandsIsToldAlike}}
-=======
-use Rattle.office_desk.{specs.Reports.{TellsAbout, TellsNext, partner_called}, proofs.Faults.reply_of_kept}
-use Rattle.office_archives.specs.{Shelves.{AreShelved, IsOpenAt, IsOpenIfAny, NamesAll, archive_at}, declared.opened.Opened.Opened}
-use Rattle.office_archives.specs.Reporting.{IsOfWhatStands, WhatStandsIsToldAlike}
->>>>>>> ae65be05
 use Rattle.box6346.specs.declared.box_number.BoxNumber.{BoxNumber}
 use Rattle.edi_messages.specs.{Owned.call_content, declared.call.Call.Call, Purposes.CallContent, Texts.is_name}
 use Rattle.terminal_core.specs.{declared.lines.Side.Side, State.{LineContent, TerminalState, open_visit, side_code}}

@@ -18,32 +18,18 @@ use Rattle.office_history.{specs.{After.{content_after, machine_after, reply_in}
 use Rattle.office_parts.specs.{Archives.{Archive, Hold, archive_of}, Closing.{is_beyond, is_closed}, OwnTerminal.own_terminal, Parts.{Archived, ArePartsAfter}}
 use Rattle.office_parts.{specs.{Away.lines_away, OwnLists.{ListName, list_name}}, proofs.{LeftOver.told_alike as beyond_alike, AwayLemmas.away_with}}
 use Rattle.office_parts.proofs.Orders.{body_there, closed_within, found_beyond, reply_there}
-<<<<<<< HEAD
-use Rattle.office_desk.specs.Reports.{AreLookedUp, IsLookedUp, TellsAfter, TellsNext, TellsOf, TellsPartner, TellsReply, TellsReplyOf, contrl_for_partner, partner_called, ticket_if_taken, ticket_of}
-use Rattle.office_archives.specs.{Beyond.IsBeyond, Counted.IsOfPartners, Reporting.IsOfWhatStands, Standing.IsOwnWithRest}
-use Rattle.office_archives.specs.Telling.{IsOfContainer, IsOfList, IsOfNeither, IsOfNumber, TellsTogether, with_archives}
-use Rattle.office_archives.{specs.Shelves.{HasLists, IsKeptAs, IsOfCall, NamesAll, NamesOneMore, archive_at}, proofs.Moves.{metrics_told, partners_told}}
-use Rattle.office_archives.proofs.StayedTold.{beyond_told, containers_told, visits_told}
-use Rattle.office_archives.proofs.Rising.{all_among, all_later_put, told_alike, put_told, puts_up_to, rises, up_to_most}
-use Rattle.edi_syntax.specs.Numbers.{last_number}
-use Rattle.office_closing.specs.{Changes.closed_with, Lists.{SettledListContent, lines_of_list, lists_among, put_lists}, declared.register.Segment.Segment}
-use Rattle.office_closing.specs.Register.{ArchiveContent, RegisterContent, is_of, last_closed, reaches, SealedContent}
-use Rattle.office_closing.specs.Sound.{are_in_order, are_rising, are_sound_archives, are_sound_segments, are_sound_sealed, are_sound_taken, close_more, is_sound, is_sound_mark, is_within, may_be_list}
-use Rattle.office_reports.specs.declared.query.Query.TheVariants as query
-=======
 use Rattle.office_desk.specs.Reports.{AreLookedUp, IsLookedUp, Shows, TellsAbout, TellsAfter, TellsNext, TellsOf, TellsPartner, TellsReply, TellsReplyOf, contrl_for_partner, contrl_told, partner_called, ticket_if_taken, ticket_of}
 use Rattle.office_desk.proofs.Values.{text_shown}
 use Rattle.office_archives.specs.{Beyond.IsBeyond, Counted.{IsOfPartners, TellsOwnMetrics}, Reporting.IsOfWhatStands, Standing.IsOwnWithRest}
 use Rattle.office_archives.specs.Telling.{IsOfContainer, IsOfList, IsOfNeither, IsOfNumber, TellsTogether, TogetherTells, shown_beside}
 use Rattle.office_archives.specs.Shelves.{HasLists, IsKeptAs, IsOfCall, NamesAll, NamesOneMore, archive_at}
-use Rattle.office_archives.proofs.{StayedTold.{beyond_told, containers_told, visits_told}, Rising.{told_alike, put_told, rises, up_to_most}}
-use Rattle.office_archives.proofs.Moves.{all_looked_up as whole_looked_up, metrics_told, partners_told}
+use Rattle.office_archives.proofs.{StayedTold.{beyond_told, containers_told, visits_told}, Moves.{all_looked_up as whole_looked_up, metrics_told, partners_told}}
+use Rattle.office_archives.proofs.Rising.{all_among, all_later_put, told_alike, put_told, puts_up_to, rises, up_to_most}
 use Rattle.edi_syntax.specs.Numbers.{last_number}
-use Rattle.office_closing.specs.{Changes.closed_with, Lists.{SettledListContent, lines_of_list, put_lists}, declared.register.Segment.Segment}
-use Rattle.office_closing.specs.Register.{ArchiveContent, RegisterContent, is_of, last_closed, reaches}
-use Rattle.office_closing.specs.Sound.{are_in_order, are_rising, are_sound_archives, are_sound_segments, are_sound_taken, close_more, is_sound, is_sound_mark, is_within, may_be_list}
+use Rattle.office_closing.specs.{Changes.closed_with, Lists.{SettledListContent, lines_of_list, lists_among, put_lists}, declared.register.Segment.Segment}
+use Rattle.office_closing.specs.Register.{ArchiveContent, RegisterContent, is_of, last_closed, reaches, SealedContent}
+use Rattle.office_closing.specs.Sound.{are_in_order, are_rising, are_sound_archives, are_sound_segments, are_sound_sealed, are_sound_taken, close_more, is_sound, is_sound_mark, is_within, may_be_list}
 use Rattle.office_reports.specs.declared.query.About.TheVariants as about
->>>>>>> ae65be05
 use Rattle.office_parts.specs.Archives as parts
 
 -- ---- closed interchanges wait for nothing

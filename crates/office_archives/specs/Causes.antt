@@ -39,6 +39,6 @@ IsDeservedHere g desk asked fault = IsAskedHere desk asked → IsDeserved g desk
 
 -- a report by these rows is looked at
 abbrev pub IsLookedAtHere : {S : Type 0} {g : Ghosts S} → Desk S g → Look → Type 0
-IsLookedAtHere desk (report asked) = IsAskedHere desk asked
+IsLookedAtHere desk (report asked) = IsAskedHere desk asked.about
 IsLookedAtHere desk (texts_after from) = ⊥
 IsLookedAtHere desk (of_archive place asked) = ⊥

@@ -1,11 +1,7 @@
 -- What a store and its archives report together.
 use Rattle.std.specs.Prelude.{◌≡◌, ◌⊎◌, ◌==◌, ℕ, ◌≤◌, Bool, true, false, is_some, ◌-◌, List, [], ◌∷◌, ◌++◌, length, take, Option, None, Some, codes, decimal, string_bytes, if◌then◌else◌}
-<<<<<<< HEAD
-use Rattle.std.specs.Option.{unwrap_or}
-=======
 use Rattle.std.specs.Option.{option_map, unwrap_or}
 use Rattle.serde_json.specs.Written.{compact_text}
->>>>>>> ae65be05
 use Rattle.office_replies.specs.Events.{Event}
 use Rattle.office_rows.specs.Rows.{Rows}
 use Rattle.office_admission.specs.Setups.{SetupContent}
@@ -102,12 +98,7 @@ pub record TellsOwnCalls (archives : List Archive) (lines : Lines) (view : View)
   pub away : ListName → Bool
   pub were_put_away : (list : ListName) → away list ≡ true → is_some (lines_away archives list) ≡ true
   pub put_away : Bool
-<<<<<<< HEAD
   pub says : SaysIfAway archives put_away
-  pub told : found ≡ with_archives (archives_with_lists archives put_away) (Some (calls_text (own_lines away lines)))
-=======
-  pub none : put_away ≡ false → (list : ListName) → lines_away archives list ≡ None
-  pub some : put_away ≡ true → HasListAway archives
   pub told : found
       ≡ shown_beside (archives_with_lists archives put_away) view
       (Some (value.calls (lists_in (finite_map.entries (own_lines away lines)))))
@@ -150,7 +141,6 @@ pub record TellsOwnStart (now : SetupContent) (archives : List Archive) (stays :
   pub blocks : BlocksContent
   pub full : AreBlocks state blocks
   pub told : found ≡ Some (office_page now.terminal (own_start now stays away state partners blocks))
->>>>>>> ae65be05
 
 -- ---- numbers that are closed
 
@@ -242,21 +232,18 @@ TellsTogether content es archives archived whole asked found =
 
 -- ---- what one archive reports
 
--- of a container: what the archive's own rows tell, shown so with how many archives there were when it was closed
-abbrev pub TellsOwnContainer : List Archive → (place : ℕ) → Query → Option (List ℕ) → Type 0
-TellsOwnContainer archives place asked found =
+-- what the archive's own rows tell, shown so with that count of archives
+abbrev pub TellsOwnBeside : List Archive → (place count : ℕ) → Query → Option (List ℕ) → Type 0
+TellsOwnBeside archives place count asked found =
     (archive : Archive) → archive_at archives place ≡ Some archive →
     (own : Option ReportContent) × IsValueOf archive.rows asked.about own
-    × (found ≡ shown_beside (place - 1) asked.view own)
+    × (found ≡ shown_beside count asked.view own)
 
--- of lists: what the archive's own rows tell, and in a last line how many archives there were when it was closed, if lists were
--- put away with them
-pub record TellsCallsThen (archives : List Archive) (place : ℕ) (found : Option (List ℕ)) : Type 0 where
-  pub own : Option (List ℕ)
-  pub is : IsReportIn archives place query.Calls own
+-- of lists: so with how many archives there were when it was closed, if lists were put away with them
+pub record TellsCallsThen (archives : List Archive) (place : ℕ) (asked : Query) (found : Option (List ℕ)) : Type 0 where
   pub put_away : Bool
   pub says : SaysIfAway (take (place - 1) archives) put_away
-  pub told : found ≡ with_archives (archives_with_lists (take (place - 1) archives) put_away) own
+  pub told : TellsOwnBeside archives place (archives_with_lists (take (place - 1) archives) put_away) asked found
 
 -- Of a number, of the partner that has the code: what the archive's own rows tell, if it was not closed before; else what its
 -- archive tells. Numbers are from 1. If nobody has the code, what the archive's own rows tell.
@@ -267,11 +254,14 @@ TellsOwnNumber archives place asked code number (Some partner) found =
     (IsReportIn archives place asked found × (1 ≤ number → IsNotClosedBefore archives place partner number))
     ⊎ (IsClosedBefore archives place partner number × TellsClosed archives asked code partner number found)
 
--- what the archive at a place tells at a query that is about that, as the store that it was, with the archives before it; of
--- a number by the accounts of this set-up
+-- what the archive at a place tells at a query that is about that, as the store that it was, with the archives before it: of a
+-- container with how many they are, of a number by the accounts of this set-up
 abbrev pub TellsByAbout : SetupContent → List Archive → (place : ℕ) → About → Query → Option (List ℕ) → Type 0
-TellsByAbout content archives place (about.Visits container) asked found = TellsOwnContainer archives place asked found
-TellsByAbout content archives place (about.Container container) asked found = TellsOwnContainer archives place asked found
+TellsByAbout content archives place (about.Visits container) asked found =
+    TellsOwnBeside archives place (place - 1) asked found
+TellsByAbout content archives place (about.Container container) asked found =
+    TellsOwnBeside archives place (place - 1) asked found
+TellsByAbout content archives place about.Calls asked found = TellsCallsThen archives place asked found
 TellsByAbout content archives place (about.Reply code number) asked found =
     TellsOwnNumber archives place asked (string_bytes code) number (partner_called content (string_bytes code)) found
 TellsByAbout content archives place (about.Contrl code number) asked found =
@@ -281,25 +271,7 @@ TellsByAbout content archives place (about.Ticket code number) asked found =
 TellsByAbout content archives place other asked found = IsReportIn archives place asked found
 
 abbrev pub TellsAsStore : SetupContent → List Archive → (place : ℕ) → Query → Option (List ℕ) → Type 0
-<<<<<<< HEAD
-TellsAsStore content archives place (query.Visits container) found =
-    TellsOwnContainer archives place (query.Visits container) found
-TellsAsStore content archives place (query.Container container) found =
-    TellsOwnContainer archives place (query.Container container) found
-TellsAsStore content archives place query.Calls found = TellsCallsThen archives place found
-TellsAsStore content archives place (query.Reply code number) found =
-    TellsOwnNumber archives place (query.Reply code number) (string_bytes code) number
-    (partner_called content (string_bytes code)) found
-TellsAsStore content archives place (query.Contrl code number) found =
-    TellsOwnNumber archives place (query.Contrl code number) (string_bytes code) number
-    (partner_called content (string_bytes code)) found
-TellsAsStore content archives place (query.Ticket code number) found =
-    TellsOwnNumber archives place (query.Ticket code number) (string_bytes code) number
-    (partner_called content (string_bytes code)) found
-TellsAsStore content archives place asked found = IsReportIn archives place asked found
-=======
 TellsAsStore content archives place asked found = TellsByAbout content archives place asked.about asked found
->>>>>>> ae65be05
 
 -- there is an archive at that place, the first at 1
 abbrev pub IsPlace : List Archive → (place : ℕ) → Type 0

@@ -14,11 +14,8 @@ ghost use Rattle.office_tables.specs.declared.table_fault.TableFault.TheVariants
 ghost use Rattle.sqlite.specs.{Held.state, State.HasCleanDisk};
 
 use crate::archives::{
-<<<<<<< HEAD
     Archives, answer_closed, archives_with_lists, partner_called, tell_closed, with_archives,
-=======
-    Archives, answer_closed, partner_called, tell_closed, with_archives, with_note,
->>>>>>> ae65be05
+    with_note,
 };
 use crate::bringing::bring_back_named;
 use crate::lists_away::{lines_if_away, report_by_lines};
@@ -244,17 +241,8 @@ impl<S: Alter + Drop, A: Archives + Drop> ArchivedDesk<S, A> {
         ensures last_fault { self.new.desk.last_fault ≡ self.old.desk.last_fault }
     {
         let told = self.desk.find_report(alloc, query)?;
-<<<<<<< HEAD
         let count = archives_with_lists(&self.archives, self.archives.count());
-        Ok(with_archives(alloc, told, count)?)
-=======
-        let count = if self.archives.has_lists() {
-            self.archives.count()
-        } else {
-            0
-        };
         Ok(with_archives(alloc, query.view, told, count)?)
->>>>>>> ae65be05
     }
 
     /// What the list of a call says, or what is left of it: if it is away, by its lines as they were put away.
@@ -415,132 +403,3 @@ impl<S: Alter + Drop, A: Archives + Drop> Report for ArchivedDesk<S, A> {
         self.answer_archive(alloc, place, query)
     }
 }
-<<<<<<< HEAD
-
-/// What the archive at a place reports for a query, as the store that it was: of a container, and of its lists if some were
-/// put away by then, also how many archives there were then, of a number that was closed before what that number's archive
-/// keeps. None if there is no such archive, or it reports nothing. No archive changes.
-fn tell_of_archive<S: Alter, A: Archives>(
-    alloc: Global,
-    desk: &Desk<S>,
-    archives: &mut A,
-    place: u16,
-    query: &Query,
-) -> Result<Option<String>, TableFault>
-    ensures told { A.is_sound archives.new → IfOk result (λ found.
-        TellsOfOne S.Store A.are desk.now archives.old place query.now (option_map string_bytes found)) }
-    ensures same { (list : List Archive) → A.are list archives.old → A.are list archives.new }
-{
-    if !has_place(archives, place) {
-        return Ok(None);
-    }
-    match query {
-        Query::Visits(_) | Query::Container(_) => tell_container(alloc, archives, place, query),
-        Query::Calls => tell_calls(alloc, archives, place, query),
-        Query::Reply { partner, number } => {
-            tell_number(alloc, desk, archives, place, query, partner, *number)
-        }
-        Query::Contrl { partner, number } => {
-            tell_number(alloc, desk, archives, place, query, partner, *number)
-        }
-        Query::Ticket { partner, number } => {
-            tell_number(alloc, desk, archives, place, query, partner, *number)
-        }
-        _ => archives.report(alloc, place, query),
-    }
-}
-
-/// Whether there is an archive at a place, the first at 1.
-fn has_place<A: Archives>(archives: &A, place: u16) -> bool
-    ensures { (list : List Archive) → A.are list archives.now → (result ≡ true) ↔ IsPlace list place }
-{
-    1 <= place && usize::from(place) <= archives.count()
-}
-
-/// What the archive at a place reports of a container, and how many archives are before it: they were not searched.
-fn tell_container<A: Archives>(
-    alloc: Global,
-    archives: &mut A,
-    place: u16,
-    query: &Query,
-) -> Result<Option<String>, TableFault>
-    requires { IsOfContainer query.now }
-    ensures told { A.is_sound archives.new → IfOk result (λ found. (content : SetupContent) (list : List Archive) →
-        A.are list archives.old → TellsAsStore content list place query.now (option_map string_bytes found)) }
-    ensures same { (list : List Archive) → A.are list archives.old → A.are list archives.new }
-{
-    let told = archives.report(alloc, place, query)?;
-    let before = usize::from(place).saturating_sub(1);
-    Ok(with_archives(alloc, told, before)?)
-}
-
-/// What the archive at a place reports of its lists, and how many archives are before it, if lists were put away with them:
-/// they were not looked at.
-fn tell_calls<A: Archives>(
-    alloc: Global,
-    archives: &mut A,
-    place: u16,
-    query: &Query,
-) -> Result<Option<String>, TableFault>
-    requires { query.now ≡ Calls }
-    ensures told { A.is_sound archives.new → IfOk result (λ found. (content : SetupContent) (list : List Archive) →
-        A.are list archives.old → IsPlace list place → TellsAsStore content list place Calls (option_map string_bytes found)) }
-    ensures same { (list : List Archive) → A.are list archives.old → A.are list archives.new }
-{
-    let told = archives.report(alloc, place, query)?;
-    let count = archives_with_lists(archives, usize::from(place).saturating_sub(1));
-    Ok(with_archives(alloc, told, count)?)
-}
-
-/// What is reported of a number: by the archive before that place which closed it, or by the archive at that place.
-fn tell_number<S: Alter, A: Archives>(
-    alloc: Global,
-    desk: &Desk<S>,
-    archives: &mut A,
-    place: u16,
-    query: &Query,
-    code: &str,
-    number: u32,
-) -> Result<Option<String>, TableFault>
-    requires { IsOfNumber query.now code.now number }
-    ensures told { A.is_sound archives.new → IfOk result (λ found. (content : SetupContent) (es : List Event)
-        (stand : StandTogether S.Store A.are content es desk.now archives.old) →
-        TellsAsStore (content_after content es) stand.list place query.now (option_map string_bytes found)) }
-    ensures same { (list : List Archive) → A.are list archives.old → A.are list archives.new }
-{
-    let Some(partner) = partner_called(desk, code) else {
-        return archives.report(alloc, place, query);
-    };
-    if closed_before(desk, archives, place, partner, number) {
-        tell_closed(alloc, archives, query, code, partner, number)
-    } else {
-        archives.report(alloc, place, query)
-    }
-}
-
-/// Whether an archive before that place keeps the number of a partner with a code. Numbers are from 1.
-fn closed_before<S: Alter, A: Archives>(
-    desk: &Desk<S>,
-    archives: &A,
-    place: u16,
-    partner: u16,
-    number: u32,
-) -> bool
-    ensures before { result ≡ true → (code : List ℕ) → partner_called (setup_content desk.now.setup) code ≡ Some partner →
-        (content : SetupContent) (es : List Event) (stand : StandTogether S.Store A.are content es desk.now archives.now) →
-        IsClosedBefore stand.list place partner number }
-    ensures not_before { result ≡ false → 1 ≤ number →
-        (code : List ℕ) → partner_called (setup_content desk.now.setup) code ≡ Some partner →
-        (content : SetupContent) (es : List Event) (stand : StandTogether S.Store A.are content es desk.now archives.now) →
-        IsNotClosedBefore stand.list place partner number }
-{
-    if number == 0 || !desk.is_closed(partner, number) {
-        return false;
-    }
-    match archives.place_of(partner, number) {
-        Some(keeper) => keeper < place,
-        None => false,
-    }
-}
-=======
->>>>>>> ae65be05

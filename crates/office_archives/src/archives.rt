@@ -1,16 +1,9 @@
 ghost use Rattle.std.specs.Option.{option_and_then, option_map, unwrap_or};
-<<<<<<< HEAD
-ghost use Rattle.std.specs.Prelude.{◌≡◌, ◌≤◌, ◌++◌, [], Bool, IfOk, List, length, map, string_bytes, take, Some, OnOk};
+ghost use Rattle.std.specs.Prelude.{◌≡◌, ◌≤◌, ◌++◌, [], Bool, IfOk, List, length, map, string_bytes, take, Some, OnOk, Option, ℕ};
 ghost use Rattle.edi_messages.specs.Owned.{call_content};
 ghost use Rattle.office_archives.specs.{Answering.AnswersClosed, Keeping.{IsClosedIn, IsKeptIn, IsReportIn, IsTicketIn}, Shelves.archive_at};
-ghost use Rattle.office_archives.specs.Telling.{SaysIfAway, TellsClosed, archives_line, archives_with_lists, with_archives};
-=======
-ghost use Rattle.std.specs.Prelude.{◌≡◌, ◌++◌, [], false, true, IfOk, List, length, map, string_bytes, None, Some, OnOk, Option, ℕ};
-ghost use Rattle.edi_messages.specs.Owned.{call_content};
-ghost use Rattle.office_archives.specs.{Answering.AnswersClosed, Keeping.{IsClosedIn, IsKeptIn, IsReportIn, IsTicketIn}, Shelves.archive_at};
-ghost use Rattle.office_archives.specs.Telling.{AreAsked, AreEnded, HasListAway, TellsClosed, archives_line, shown_beside, with_archives, with_note};
+ghost use Rattle.office_archives.specs.Telling.{AreAsked, AreEnded, SaysIfAway, TellsClosed, archives_line, archives_with_lists, shown_beside, with_archives, with_note};
 ghost use Rattle.office_report_data.specs.Told.{ReportContent, shown};
->>>>>>> ae65be05
 ghost use Rattle.office_desk.specs.{Answers.answer_by_model, Noting.IsNow, Reports.partner_called};
 ghost use Rattle.office_parts.specs.{Away.lines_away, OwnLists.list_name, Archives.{Archive, archive_of, reply_by}};
 ghost use Rattle.office_replies.specs.Contents.{content_of};

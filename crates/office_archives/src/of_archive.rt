@@ -7,17 +7,18 @@ ghost use Rattle.office_desk.specs.Reports.{partner_called};
 ghost use Rattle.office_history.specs.After.{content_after};
 ghost use Rattle.office_parts.specs.Archives.{Archive};
 ghost use Rattle.office_replies.specs.Events.{Event};
+ghost use Rattle.office_reports.specs.declared.query.About.TheVariants.{Calls};
 
-use crate::archives::{Archives, partner_called, tell_closed, with_archives};
+use crate::archives::{Archives, archives_with_lists, partner_called, tell_closed, with_archives};
 use office_desk::Desk;
 use office_reports::{About, Query};
 use office_tables::TableFault;
 use sqlite::Alter;
 use std::alloc::Global;
 
-/// What the archive at a place reports for a query, as the store that it was: of a container also how many archives
-/// there were then, of a number that was closed before what that number's archive keeps. None if there is no such
-/// archive, or it reports nothing. No archive changes.
+/// What the archive at a place reports for a query, as the store that it was: of a container, and of its lists if some were
+/// put away by then, also how many archives there were then, of a number that was closed before what that number's archive
+/// keeps. None if there is no such archive, or it reports nothing. No archive changes.
 pub(crate) fn tell_of_archive<S: Alter, A: Archives>(
     alloc: Global,
     desk: &Desk<S>,
@@ -34,6 +35,7 @@ pub(crate) fn tell_of_archive<S: Alter, A: Archives>(
     }
     match &query.about {
         About::Visits(_) | About::Container(_) => tell_container(alloc, archives, place, query),
+        About::Calls => tell_calls(alloc, archives, place, query),
         About::Reply { partner, number } => {
             tell_number(alloc, desk, archives, place, query, partner, *number)
         }
@@ -69,6 +71,25 @@ fn tell_container<A: Archives>(
     let told = archives.report(alloc, place, query)?;
     let before = usize::from(place).saturating_sub(1);
     Ok(with_archives(alloc, query.view, told, before)?)
+}
+
+/// What the archive at a place reports of its lists, and how many archives are before it, if lists were put away with them:
+/// they were not looked at.
+fn tell_calls<A: Archives>(
+    alloc: Global,
+    archives: &mut A,
+    place: u16,
+    query: &Query,
+) -> Result<Option<String>, TableFault>
+    requires { query.now.about ≡ Calls }
+    ensures told { A.is_sound archives.new → IfOk result (λ found. (content : SetupContent) (list : List Archive) →
+        A.are list archives.old → IsPlace list place →
+        TellsAsStore content list place query.now (option_map string_bytes found)) }
+    ensures same { (list : List Archive) → A.are list archives.old → A.are list archives.new }
+{
+    let told = archives.report(alloc, place, query)?;
+    let count = archives_with_lists(archives, usize::from(place).saturating_sub(1));
+    Ok(with_archives(alloc, query.view, told, count)?)
 }
 
 /// What is reported of a number: by the archive before that place which closed it, or by the archive at that place.

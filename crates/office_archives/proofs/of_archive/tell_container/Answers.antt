@@ -1,5 +1,5 @@
 use Rattle.std.proofs.Common.{◌≡◌, ◌-◌, option_map, string_bytes, rules, ap, ◌∙◌}
-use Rattle.office_archives.{specs.Telling.shown_beside, proofs.Brought.container_as}
+use Rattle.office_archives.{specs.Telling.shown_beside, proofs.OfArchive.container_as}
 use Rattle.office_archives.proofs.of_archive.tell_container.Goals as goal
 
 pub returns-clause-told : goal.returns-clause-told

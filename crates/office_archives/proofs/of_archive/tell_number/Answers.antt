@@ -3,7 +3,7 @@ use Rattle.office_rows.proofs.Creating.{if_ok}
 use Rattle.office_admission.specs.Setups.{setup_content}
 use Rattle.office_history.specs.After.{content_after}
 use Rattle.office_desk.specs.Reports.{partner_called}
-use Rattle.office_archives.proofs.{Beside.{called_here, nobody_here}, Brought.number_as}
+use Rattle.office_archives.proofs.{Beside.{called_here, nobody_here}, OfArchive.number_as}
 use Rattle.office_archives.proofs.of_archive.tell_number.Goals as goal
 
 pub returns-in_default-clause-told : goal.returns-in_default-clause-told

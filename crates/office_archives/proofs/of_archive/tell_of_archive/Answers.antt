@@ -1,13 +1,8 @@
-use Rattle.std.proofs.Common.{option_map, string_bytes, subst, sym}
+use Rattle.std.proofs.Common.{option_map, string_bytes}
 use Rattle.office_rows.proofs.Creating.{if_ok}
 use Rattle.office_history.specs.After.{content_after}
-<<<<<<< HEAD:crates/office_archives/proofs/archived_desk/tell_of_archive/Answers.antt
-use Rattle.office_archives.{specs.Telling.TellsAsStore, proofs.Brought.{neither_as, told_there}}
-use Rattle.office_archives.proofs.archived_desk.tell_of_archive.Goals as goal
-=======
-use Rattle.office_archives.proofs.Brought.{neither_as, told_there}
+use Rattle.office_archives.proofs.OfArchive.{neither_as, told_there}
 use Rattle.office_archives.proofs.of_archive.tell_of_archive.Goals as goal
->>>>>>> ae65be05:crates/office_archives/proofs/of_archive/tell_of_archive/Answers.antt
 
 pub returns-in-Visits-clause-told : goal.returns-in-Visits-clause-told
 returns-in-Visits-clause-told g c = λ whole.
@@ -18,7 +13,7 @@ pub returns-in-Calls-clause-told : goal.returns-in-Calls-clause-told
 returns-in-Calls-clause-told g c = λ whole.
     let there = λ list are. (c.has_place.ensures list are).0 c.if-not-has_place.false in
     if_ok c.tell_calls.result (λ found told. told_there g.S.Store g.A.Archives.are c.args.desk.now c.args.archives.now c.args.place c.args.query.now (option_map string_bytes found) there
-    (λ content es stand. subst (λ asked. TellsAsStore (content_after content es) stand.list c.args.place asked (option_map string_bytes found)) (sym c.in-Calls.is) (told (content_after content es) stand.list stand.these (there stand.list stand.these))))
+    (λ content es stand. told (content_after content es) stand.list stand.these (there stand.list stand.these)))
     (c.tell_calls.ensures.told whole)
 
 pub returns-in-Reply-clause-told : goal.returns-in-Reply-clause-told
