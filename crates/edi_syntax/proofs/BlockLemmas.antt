@@ -132,6 +132,10 @@ body_found segments none =
       reference = not-false (repeats_reference segments) seven.0;
     }
 
+pub some_from : {A : Type 0} (o : Option A) → is_none o ≡ false → IsSome o
+some_from None h = absurd (true≢false h)
+some_from (Some x) h = refl
+
 -- a control number is from 1 to 999,999,999
 pub control_number_within : (header : Content) (number : ℕ) → control_number header ≡ Some number → (1 ≤ number) × (number ≤ 999999999)
 control_number_within header number is =

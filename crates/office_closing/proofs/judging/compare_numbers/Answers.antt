@@ -32,5 +32,5 @@ returns-in-Err-clause-fault g c here there own copy own_has copy_has own_once co
     either_more (has_unfit c.args.numbers.now own) (has_unfit c.args.numbers.now copy) _ _ (c.in-Err.ensures.fault here there own copy own_has copy_has)
 
 pub returns-in-Ok-Alike-clause-sealed : goal.returns-in-Ok-Alike-clause-sealed
-returns-in-Ok-Alike-clause-sealed g c here there copy copy_has copy_once =
-    rw c.in-Ok-Alike.field-0-is at (c.in-Ok-Alike.ensures.sealed here there copy copy_has copy_once)
+returns-in-Ok-Alike-clause-sealed g c here there =
+    rw c.in-Ok-Alike.field-0-is at (c.in-Ok-Alike.ensures.sealed here there)

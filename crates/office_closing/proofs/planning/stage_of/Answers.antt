@@ -69,6 +69,18 @@ module _ (own copy : OfficeContent) (names : FileNames) (lists : List SettledLis
     subst (IsMarkedAs copy.register.closed_for names.store) is.1 marked,
   )
 
+  -- and may go on, if the register with the archive is sound and the store's file has a name
+  comes_on : sound.is_sound raised ≡ true → sound.is_file_name names.store ≡ true → (come : Stage) → IsToldBy is_same has_archive found come → ComesOn own copy names lists come
+  comes_on is_sound is_named come is = record {
+    has_come = has_come come is;
+    may = record {
+      raised =
+          subst (λ s. sound.is_sound (raised_by names.archive lists (taken_at own (archive_in names.archive copy).place come) s copy) ≡ true) (sealed_told come is)
+          (subst (λ t. sound.is_sound (raised_by names.archive lists t sealed copy) ≡ true) (taken_told come is) (subst (λ (c : RegisterContent). sound.is_sound c ≡ true) is_raised is_sound));
+      mark = is_named;
+    };
+  }
+
 -- with the lists that are done it comes on as with those that the register is to get
 comes_with : (own copy : OfficeContent) (names : FileNames) (place at : ℕ) (done lists : List SettledListContent) → own.register.closed_for ≡ None → AreFor own copy place done lists → place ≡ at → (come : Stage)
     → ComesOn own copy names (lists_at own at done come) come → ComesOn own copy names lists come
@@ -83,29 +95,19 @@ returns-in-Some-clause-ok c names store archive =
     let lists = map list_content c.args.lists.now in
     let taken = c.args.taken.now in
     let sealed = map sealed_content c.args.sealed.now in
-    let come = c.in-Some.stage in
     let place = ap (λ (a : ArchiveContent). a.place) c.requires.archive in
     let for = subst (λ n. IsTakenFor own copy n taken) place c.requires.taken in
     let with_ = subst (λ n. IsSealedFor own copy n sealed) place c.requires.sealed in
     let is_raised = c.in_ok-raised.ensures ∙ raised_is copy (archive_content c.args.archive.now) c.args.segments.now lists taken sealed names.archive c.requires.archive c.requires.segments archive in
     let marked = subst (λ s. IsMarkedAs copy.register.closed_for s c.mark_of-mark.result) (sym store) c.mark_of-mark.ensures in
-    let may : (sound.is_sound (raised_by names.archive lists taken sealed copy) ≡ true) × (sound.is_file_name names.store ≡ true) = elim c.if-branch.branch [
+    let may : (sound.is_sound (register_content c.in_ok-raised.raised) ≡ true) × (sound.is_file_name names.store ≡ true) = elim c.if-branch.branch [
       | then-branch v ↦ (
-        (let same = ap sound.is_sound is_raised in cc (same, v.if-branch.true, c.in_ok-may.ensures)),
-        (let same = ap sound.is_file_name store in cc (same, c.if-may.true, v.may-is, v.is_file_name-may.ensures)),
+        sym c.in_ok-may.ensures ∙ v.if-branch.true,
+        ap sound.is_file_name (store ∙ sym v.as_bytes.ensures.value) ∙ sym v.is_file_name-may.ensures ∙ sym v.may-is ∙ c.if-may.true,
       )
-      | else-branch v ↦ cc (c.if-may.true, v.may-is)
+      | else-branch v ↦ absurd (false≢true (sym v.may-is ∙ c.if-may.true))
     ] in
-    let told = taken_told own copy names lists taken for sealed with_ c.tells_same-is_same.result c.tells_same-has_archive.result c.mark_of-mark.result (register_content c.in_ok-raised.raised) c.requires.unclosed c.tells_same-is_same.ensures is_raised c.tells_same-has_archive.ensures marked come c.in-Some.ensures in
-    let its = sealed_told own copy names lists taken for sealed with_ c.tells_same-is_same.result c.tells_same-has_archive.result c.mark_of-mark.result (register_content c.in_ok-raised.raised) c.requires.unclosed c.tells_same-is_same.ensures is_raised c.tells_same-has_archive.ensures marked come c.in-Some.ensures in
-    record {
-      has_come = has_come own copy names lists taken for sealed with_ c.tells_same-is_same.result c.tells_same-has_archive.result c.mark_of-mark.result (register_content c.in_ok-raised.raised) c.requires.unclosed c.tells_same-is_same.ensures is_raised c.tells_same-has_archive.ensures marked come c.in-Some.ensures;
-      may = record {
-        raised = subst (λ s. sound.is_sound (raised_by names.archive lists (taken_at own (archive_in names.archive copy).place come) s copy) ≡ true) its
-            (subst (λ t. sound.is_sound (raised_by names.archive lists t sealed copy) ≡ true) told may.0);
-        mark = may.1;
-      };
-    }
+    comes_on own copy names lists taken for sealed with_ c.tells_same-is_same.result c.tells_same-has_archive.result c.mark_of-mark.result (register_content c.in_ok-raised.raised) c.requires.unclosed c.tells_same-is_same.ensures is_raised c.tells_same-has_archive.ensures marked may.0 may.1 c.in-Some.stage c.in-Some.ensures
 
 pub returns-clause-err : goal.returns-clause-err
 returns-clause-err c =
