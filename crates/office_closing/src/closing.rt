@@ -17,6 +17,7 @@ use crate::{
     Archive, SealedArchive, Segment, SettledList, characters, close_with, mark, side_code,
 };
 use edi_messages::Call;
+use office_loading::{Onlooker, Step};
 use office_tables::{TableFault, commit, integer};
 use sqlite::{Alter, Connection, Transaction};
 use std::alloc::Global;
@@ -27,8 +28,9 @@ use terminal_core::Side;
 ///
 /// If it was stopped, it goes on when it is called again with the same files. It changes nothing if the archive is refused.
 /// It answers what it puts away, with what went before it was stopped but for visits and lists that are gone.
-pub fn close<S: Alter, R: Alter, A: Alter, M: Alter>(
+pub fn close<S: Alter, R: Alter, A: Alter, M: Alter, O: Onlooker>(
     alloc: Global,
+    onlooker: &O,
     store: &mut Connection<S>,
     register: &mut Connection<R>,
     archive: &mut Connection<A>,
@@ -49,6 +51,7 @@ pub fn close<S: Alter, R: Alter, A: Alter, M: Alter>(
     check_idle(store, register, archive, archive_register);
     let plan = judge(
         alloc,
+        onlooker,
         store,
         register,
         archive,
@@ -58,7 +61,7 @@ pub fn close<S: Alter, R: Alter, A: Alter, M: Alter>(
     )?;
     mark_archive(archive_register, plan.stage, store_file)?;
     raise(register, &plan)?;
-    match clear_all(store, &plan) {
+    match clear_all(onlooker, store, &plan) {
         Ok(()) => Ok(put_away(plan)),
         Err(fault) => Err(not_written(File::Store, fault)),
     }
@@ -166,14 +169,18 @@ fn raise_now<S: Alter>(
 }
 
 /// Deletes all that goes from the store, in short transactions.
-fn clear_all<S: Alter>(conn: &mut Connection<S>, plan: &Plan) -> Result<(), TableFault>
+fn clear_all<S: Alter, O: Onlooker>(
+    onlooker: &O,
+    conn: &mut Connection<S>,
+    plan: &Plan,
+) -> Result<(), TableFault>
     requires { (state S.Store conn.old).in_transaction ≡ false }
     ensures clears { Clears (cleared (closing_content plan.now)) (IsLeft (closing_content plan.now))
         (state S.Store conn.old) (state S.Store conn.new) result }
 {
-    clear(conn, &plan.numbers)?;
-    clear_visits(conn, &plan.visits)?;
-    clear_lists(conn, &plan.gone)
+    clear(onlooker, conn, &plan.numbers)?;
+    clear_visits(onlooker, conn, &plan.visits)?;
+    clear_lists(onlooker, conn, &plan.gone)
 }
 
 /// The most interchanges that one transaction deletes.
@@ -181,7 +188,11 @@ const BATCH: u32 = 1000;
 
 /// Deletes the interchanges under these numbers, in short transactions. What was deleted stays so if it fails, and it may be
 /// called again.
-pub fn clear<S: Alter>(conn: &mut Connection<S>, closing: &[Numbers]) -> Result<(), TableFault>
+pub fn clear<S: Alter, O: Onlooker>(
+    onlooker: &O,
+    conn: &mut Connection<S>,
+    closing: &[Numbers],
+) -> Result<(), TableFault>
     requires idle { (state S.Store conn.old).in_transaction ≡ false }
     ensures clears { Clears (rows_without (goes closing.now)) (IsWithoutSome (goes closing.now)) (state S.Store conn.old)
         (state S.Store conn.new) result }
@@ -189,13 +200,17 @@ pub fn clear<S: Alter>(conn: &mut Connection<S>, closing: &[Numbers]) -> Result<
     let is_idle = conn.is_autocommit();
     prove!(is_idle);
     for numbers in closing {
-        clear_numbers(conn, *numbers)?;
+        clear_numbers(onlooker, conn, *numbers)?;
     }
     Ok(())
 }
 
 /// Deletes a partner's interchanges under its numbers.
-fn clear_numbers<S: Alter>(conn: &mut Connection<S>, numbers: Numbers) -> Result<(), TableFault>
+fn clear_numbers<S: Alter, O: Onlooker>(
+    onlooker: &O,
+    conn: &mut Connection<S>,
+    numbers: Numbers,
+) -> Result<(), TableFault>
     requires idle { (state S.Store conn.old).in_transaction ≡ false }
     ensures clears { Clears (rows_without (goes (numbers ∷ []))) (IsWithoutSome (goes (numbers ∷ [])))
         (state S.Store conn.old) (state S.Store conn.new) result }
@@ -211,6 +226,7 @@ fn clear_numbers<S: Alter>(conn: &mut Connection<S>, numbers: Numbers) -> Result
             to,
         };
         clear_batch(conn, batch)?;
+        onlooker.passed(Step::Deleting, (to - from) as usize);
         from = to;
     }
     Ok(())
@@ -255,7 +271,11 @@ fn delete_numbers<S: Alter>(tx: &mut Transaction<'_, S>, numbers: Numbers) -> Re
 
 /// Deletes the visits of these numbers, in short transactions. What was deleted stays so if it fails, and it may be called
 /// again.
-pub fn clear_visits<S: Alter>(conn: &mut Connection<S>, visits: &[u32]) -> Result<(), TableFault>
+pub fn clear_visits<S: Alter, O: Onlooker>(
+    onlooker: &O,
+    conn: &mut Connection<S>,
+    visits: &[u32],
+) -> Result<(), TableFault>
     requires idle { (state S.Store conn.old).in_transaction ≡ false }
     ensures clears { Clears (without_visits visits.now) (IsWithoutSomeVisits (all_but visits.now)) (state S.Store conn.old)
         (state S.Store conn.new) result }
@@ -266,6 +286,7 @@ pub fn clear_visits<S: Alter>(conn: &mut Connection<S>, visits: &[u32]) -> Resul
     while !rest.is_empty() {
         let (batch, behind) = rest.split_at(visit_batch(rest.len()));
         clear_visit_batch(conn, batch)?;
+        onlooker.passed(Step::Deleting, batch.len());
         rest = behind;
     }
     Ok(())
@@ -308,7 +329,8 @@ fn delete_visits<S: Alter>(tx: &mut Transaction<'_, S>, visits: &[u32]) -> Resul
 
 /// Deletes the lines of these lists, those of each in a transaction. What was deleted stays so if it fails, and it may be called
 /// again.
-pub fn clear_lists<S: Alter>(
+pub fn clear_lists<S: Alter, O: Onlooker>(
+    onlooker: &O,
     conn: &mut Connection<S>,
     lists: &[SettledList],
 ) -> Result<(), TableFault>
@@ -321,6 +343,7 @@ pub fn clear_lists<S: Alter>(
     prove!(is_idle);
     for list in lists {
         clear_list(conn, list)?;
+        onlooker.passed(Step::Deleting, 1);
     }
     Ok(())
 }

@@ -8,6 +8,7 @@ ghost use Rattle.sqlite.specs.{Held.state, State.HasCleanDisk};
 
 use crate::faults::{File, FileFault};
 use crate::sealing::Sealing;
+use office_loading::{Onlooker, Step};
 use office_tables::{Kept, TableFault, kept};
 use sqlite::{Alter, Connection};
 use std::alloc::{AllocError, Global};
@@ -42,9 +43,10 @@ pub enum Compared {
 }
 
 /// Compares, number by number, the text and the reply that an archive keeps with those that the store keeps, up to the
-/// first that differs, and seals them. It changes neither.
-pub fn compare<S: Alter, A: Alter>(
+/// first that differs, and seals them, while somebody looks on. It changes neither.
+pub fn compare<S: Alter, A: Alter, O: Onlooker>(
     alloc: Global,
+    onlooker: &O,
     store: &mut Connection<S>,
     archive: &mut Connection<A>,
     closing: &[Numbers],
@@ -65,7 +67,13 @@ pub fn compare<S: Alter, A: Alter>(
 {
     let mut sealing = Sealing::new(alloc);
     for numbers in closing {
-        if let Some(difference) = compare_numbers(store, archive, *numbers, &mut sealing)? {
+        if let Some(difference) = compare_numbers(
+            onlooker,
+            store,
+            archive,
+            *numbers,
+            &mut sealing,
+        )? {
             return Ok(Compared::Differs(difference));
         }
     }
@@ -73,7 +81,8 @@ pub fn compare<S: Alter, A: Alter>(
 }
 
 /// Compares those under one partner's numbers, and adds them to what is sealed.
-fn compare_numbers<S: Alter, A: Alter>(
+fn compare_numbers<S: Alter, A: Alter, O: Onlooker>(
+    onlooker: &O,
     store: &mut Connection<S>,
     archive: &mut Connection<A>,
     numbers: Numbers,
@@ -102,6 +111,7 @@ fn compare_numbers<S: Alter, A: Alter>(
                 number,
             }));
         }
+        onlooker.passed(Step::Comparing, 1);
     }
     sealed_in_memory(sealing.end_partner())?;
     Ok(None)

@@ -22,7 +22,7 @@ use crate::sealed_archives::SealedArchive;
 use crate::sealing::seals_of;
 use crate::{Register, lists_waited_for, read_register};
 use office_admission::{MOST_PARTNERS, Setup};
-use office_loading::{Closed, load_own, nexts};
+use office_loading::{Closed, Onlooker, load_own, nexts};
 use office_parts::NamedList;
 use office_tables::TableFault;
 use sqlite::{Alter, Connection};
@@ -30,8 +30,9 @@ use std::alloc::{AllocError, Global};
 use terminal_core::Terminal;
 
 /// What a closing is to do, if the archive is a copy of the store and keeps what goes. It changes none of the files.
-pub(crate) fn judge<S: Alter, R: Alter, A: Alter, M: Alter>(
+pub(crate) fn judge<S: Alter, R: Alter, A: Alter, M: Alter, O: Onlooker>(
     alloc: Global,
+    onlooker: &O,
     store: &mut Connection<S>,
     register: &mut Connection<R>,
     archive: &mut Connection<A>,
@@ -66,7 +67,7 @@ pub(crate) fn judge<S: Alter, R: Alter, A: Alter, M: Alter>(
     )?;
     let named = waited_for(alloc, store, &own)?;
     let plan = make_plan(alloc, &own, copy, &named, store_file, archive_file)?;
-    let seals = compare_all(alloc, store, archive, &plan)?;
+    let seals = compare_all(alloc, onlooker, store, archive, &plan)?;
     check_order(alloc, store, archive, &own, &plan)?;
     let sealed = seal_plan(plan, seals)?;
     Ok(sealed)
@@ -216,8 +217,9 @@ fn of_store(fault: TableFault) -> CloseFault
 
 /// That the archive keeps, under each number that this call closes, what the store keeps; and the seals of that. If the store's
 /// register has the archive already, only what the archive keeps is sealed.
-fn compare_all<S: Alter, A: Alter>(
+fn compare_all<S: Alter, A: Alter, O: Onlooker>(
     alloc: Global,
+    onlooker: &O,
     store: &mut Connection<S>,
     archive: &mut Connection<A>,
     plan: &Plan,
@@ -238,7 +240,7 @@ fn compare_all<S: Alter, A: Alter>(
 {
     let is_due = is_unraised(plan.stage);
     if is_due {
-        compare_numbers(alloc, store, archive, &plan.numbers)
+        compare_numbers(alloc, onlooker, store, archive, &plan.numbers)
     } else {
         seal_numbers(alloc, archive, &plan.numbers)
     }
@@ -267,8 +269,9 @@ fn seal_numbers<A: Alter>(
 }
 
 /// That the archive keeps under these numbers what the store keeps; and the seals of that.
-fn compare_numbers<S: Alter, A: Alter>(
+fn compare_numbers<S: Alter, A: Alter, O: Onlooker>(
     alloc: Global,
+    onlooker: &O,
     store: &mut Connection<S>,
     archive: &mut Connection<A>,
     numbers: &[Numbers],
@@ -287,7 +290,7 @@ fn compare_numbers<S: Alter, A: Alter>(
     ensures store_read { IsReadIfOpen (state S.Store store.old) (state S.Store store.new) result }
     ensures archive_read { IsReadIfOpen (state A.Store archive.old) (state A.Store archive.new) result }
 {
-    match compare(alloc, store, archive, numbers) {
+    match compare(alloc, onlooker, store, archive, numbers) {
         Ok(Compared::Alike(seals)) => Ok(seals),
         Ok(Compared::Differs(difference)) => {
             Err(CloseFault::Archive(Refusal::Interchange(difference)))

@@ -71,12 +71,12 @@ module _ (own copy : OfficeContent) (names : FileNames) (lists : List SettledLis
 
   -- and may go on, if the register with the archive is sound and the store's file has a name
   comes_on : sound.is_sound raised ≡ true → sound.is_file_name names.store ≡ true → (come : Stage) → IsToldBy is_same has_archive found come → ComesOn own copy names lists come
-  comes_on is_sound is_named come is = record {
+  comes_on tested is_named come is = record {
     has_come = has_come come is;
     may = record {
       raised =
           subst (λ s. sound.is_sound (raised_by names.archive lists (taken_at own (archive_in names.archive copy).place come) s copy) ≡ true) (sealed_told come is)
-          (subst (λ t. sound.is_sound (raised_by names.archive lists t sealed copy) ≡ true) (taken_told come is) (subst (λ (c : RegisterContent). sound.is_sound c ≡ true) is_raised is_sound));
+          (subst (λ t. sound.is_sound (raised_by names.archive lists t sealed copy) ≡ true) (taken_told come is) (subst (λ (c : RegisterContent). sound.is_sound c ≡ true) is_raised tested));
       mark = is_named;
     };
   }
