@@ -1,10 +1,10 @@
 -- Lists that are put into a register: of each list the lines are those that were put there last.
 use Rattle.std.specs.{Prelude.{IsTrue, filter, ◌&&◌, ◌==◌, fold, nat_le, nat_lt, ◌-◌, remove, slice_get, slice_index_or}, declared.alloc.Global.Global}
 use Rattle.std.specs.{Option.{option_and_then, option_or, unwrap_or}, List.{AllByRecursion, list_all, position, position_or_len}, Str.bytes_eq}
-use Rattle.std.specs.{Cmp.Lexicographic.{bytes_decides, slice_cmp}, Ordering.{is_lt, nat_cmp, ordering_reverse, ordering_then}, Cmp.IsTotalOrder}
+use Rattle.std.specs.{Cmp.Lexicographic.{bytes_decides, slice_cmp}, Ordering.{is_lt, nat_cmp, ordering_reverse, ordering_then}}
 use Rattle.std.proofs.{lemmas.Bool.{and_parts, eqb-true, leb-true, le-leb, leb-false, ltb-true}, lemmas.Bool.Decides.nat_tests, lemmas.List.Edits.length-remove}
 use Rattle.std.proofs.Common.{◌≡◌, ℕ, ◌≤◌, List, true, Option, None, Some, is_some, option_map, string_bytes, String, Result, Ok, Err, IfOk, refl, sym, ap, subst, ◌∙◌, [], ◌∷◌, ◌++◌, Bool, map, false, cond, arith, Ordering, Less, Equal, Greater, is_gt, ◌<◌, drop, length, take, zero, suc}
-use Rattle.std.proofs.{lemmas.Cmp.{nat_cmp_total, nat_list_cmp_total, tied_itself, upto, on_total, then_total}, lemmas.List.{length-append, length-drop}}
+use Rattle.std.proofs.{lemmas.Cmp.{nat_cmp_total, nat_list_cmp_total, tied_itself, upto}, lemmas.List.{length-append, length-drop}}
 use Rattle.std.proofs.{lemmas.List.Quantifiers.position-Some, lemmas.Option.{cond_some, same_Some, slice_get_read}}
 use Rattle.sqlite.specs.{Held.{Held, state}, State.HasCleanDisk}
 use Rattle.sqlite_trees.specs.declared.store.Store.{Ghosts}
