@@ -20,6 +20,7 @@ from .deliveries import first_text, kept_texts
 from .events import Added, refusal
 from .files import flip
 from .naming import SIDES
+from .refused_closings import edit
 from .reports import OF_LISTS, WHOLE
 from .requests import every_key, get, of_archive, path_of, question, random_requests
 from .rows import ENDS, REGISTER, copy_files, interchange_rows, rows_in, rows_of, standing_in
@@ -332,7 +333,16 @@ def swapped(path, closable):
     return 'OTHER'
 
 
-LOSSES = [removed, unmarked, of_another, a_text, without_register, swapped]
+def of_twin(path, closable):
+    """The archive of a store that had as many texts, and others."""
+    place = [each for each, _office in closable.archives].index(path) + 1
+    if not numbers_of(closable, place):
+        return unmarked(path, closable)
+    edit(path, "UPDATE interchange SET body = CAST(body || x'0A' AS BLOB)")
+    return 'OTHER'
+
+
+LOSSES = [removed, unmarked, of_another, a_text, without_register, swapped, of_twin]
 
 
 @contextmanager
