@@ -14,11 +14,11 @@ from .closing import SEALED
 from .days import Day
 from .refused_closings import DELIVERIES, Room, edit
 from .register import last_closed
-from .rows import ENDS, identities
+from .rows import ENDS, copy_files, identities
 from .setup import DEMO
 
 # what comes between closings: of each account the last number that it has sent by then
-TAKEN = [{'HAULA': 110, 'HAULB': 3, 'LINEA': 50}, {'HAULA': 160, 'HAULB': 3, 'LINEA': 101}, {'HAULA': 161, 'HAULB': 4, 'LINEA': 101}]
+TAKEN = [{'HAULA': 101, 'HAULB': 3, 'LINEA': 50}, {'HAULA': 151, 'HAULB': 3, 'LINEA': 51}, {'HAULA': 152, 'HAULB': 4, 'LINEA': 51}]
 # what makes another interchange of one
 CHANGES = [
     "UPDATE interchange SET body = CAST(body || x'0A' AS BLOB) WHERE partner = %d AND number = %d",
@@ -29,9 +29,11 @@ CHANGES = [
 GONE = 'DELETE FROM interchange WHERE partner = %d AND number = %d'
 # numbers that are changed: at the ends of what has a seal together, and within it; by the account's code
 CHANGED = [
-    ('HAULA', 1), ('HAULA', 50), ('HAULA', 51), ('HAULA', 77), ('HAULA', 100), ('HAULA', 101), ('HAULA', 110), ('HAULA', 111),
-    ('HAULA', 160), ('HAULA', 161), ('HAULB', 2), ('HAULB', 4), ('LINEA', 50), ('LINEA', 51), ('LINEA', 100), ('LINEA', 101)]
-KINDS = ('reply', 'contrl')
+    ('HAULA', 1), ('HAULA', 50), ('HAULA', 51), ('HAULA', 77), ('HAULA', 100), ('HAULA', 101), ('HAULA', 102), ('HAULA', 151),
+    ('HAULA', 152), ('HAULB', 2), ('HAULB', 4), ('LINEA', 50), ('LINEA', 51)]
+PATHS = [
+    '/tickets/HAULA/49', '/archives/1/yard', '/archives/2/blocks', '/archives/2/replies/HAULA/1', '/archives/3/replies/HAULA/102',
+    '/archives/3/partners', '/archives/1/replies/HAULB/2']
 
 
 def text_of_number(code, number):
@@ -65,67 +67,47 @@ def is_changed(office, code, number):
 # ---- one that was changed
 
 def make_closed(room):
-    """A store that was closed three times. What was delivered, all of which is closed."""
+    """A store that was closed three times."""
     room.make('office.db')
-    office, sent = room.offices[room.path('office.db')], []
+    office, sent = room.offices[room.path('office.db')], dict.fromkeys(TAKEN[0], 0)
     for place, lasts in enumerate(TAKEN, start=1):
-        before = {code: sum(of_code == code for of_code, _number in sent) for code in lasts}
-        pairs = [(code, number) for code, last in lasts.items() for number in range(before[code] + 1, last + 1)]
+        pairs = [(code, number) for code, last in lasts.items() for number in range(sent[code] + 1, last + 1)]
         room.deliver('office.db', [text_of_number(*pair) for pair in pairs])
         room.copy('office.db', 'archive-%d.db' % place)
         room.close('office.db', 'archive-%d.db' % place)
         office.archives[place] = room.offices[room.path('archive-%d.db' % place)]
-        sent += pairs
-    return office, sent
+        sent = lasts
+    return office
 
 
-def asked(room, what, office, sent):
-    """Each number again, the archives, some reports on numbers, the texts."""
+def asked(room, what, office):
+    """Numbers again, the archives, reports on numbers and of archives over HTTP, the texts."""
     program, beside = room.program('office.db'), room.beside
-    beside.deliver(what, program, office, '\n'.join(text_of_number(*pair) for pair in sent))
+    beside.deliver(what, program, office, '\n'.join(text_of_number(*pair) for pair in CHANGED))
     beside.report(what, program, office, 'archives')
-    for code, number in CHANGED:
-        for kind in KINDS:
-            beside.report(what, program, office, kind, '%s/%d' % (code, number))
+    paths = ['/%s/%s/%d' % (kind, *pair) for pair in CHANGED for kind in ('replies', 'contrls')]
+    beside.serve(what, program, office, [get(path) for path in paths + PATHS])
     beside.texts(what, program, office, DAY.random)
-
-
-def served(room, what, office):
-    """Reports of the archives over HTTP: of one that is another none."""
-    paths = ['/replies/HAULA/1', '/replies/HAULA/60', '/tickets/HAULA/110', '/archives/1/yard', '/archives/2/blocks',
-             '/archives/2/replies/HAULA/1', '/archives/3/replies/HAULA/111', '/archives/3/partners']
-    room.beside.serve(what, room.program('office.db'), office, [get(path) for path in paths])
 
 
 def try_changed(room):
     """One text or reply of an archive is another, or is gone: the numbers that have a seal with it are not now, all others are
     answered as ever."""
-    office, sent = make_closed(room)
-    asked(room, 'sealed', office, sent)
+    office = make_closed(room)
+    asked(room, 'sealed', office)
     for place, pair in enumerate(CHANGED):
-        path = room.path('archive-%d.db' % office.archive_of(*pair))
-        for name in ('office.db', os.path.basename(path)):
-            copy_kept(room, name, 'kept-' + name)
+        names = 'office.db', 'archive-%d.db' % office.archive_of(*pair)
+        for name in names:
+            copy_files(room.path(name), room.path('kept-' + name))
         change = (CHANGES + [GONE])[place % (len(CHANGES) + 1)]
-        edit(path, change % (identities(office.setup)[pair[0]], pair[1]))
+        edit(room.path(names[1]), change % (identities(office.setup)[pair[0]], pair[1]))
         is_changed(office, *pair)
-        what = 'sealed, %s of %s/%d' % (change.split(' WHERE')[0][:40], *pair)
-        asked(room, what, office, sent)
-        served(room, what, office)
+        asked(room, 'sealed, %s of %s/%d' % (change.split(' WHERE')[0], *pair), office)
         room.beside.counted['an archive of which one interchange is another'] += 1
-        for name in ('office.db', os.path.basename(path)):
-            copy_kept(room, 'kept-' + name, name)
+        for name in names:
+            copy_files(room.path('kept-' + name), room.path(name))
         office.lost, office.told_still = {}, frozenset()
-    asked(room, 'sealed, put back', office, sent)
-
-
-def copy_kept(room, name, other):
-    """The files of a store under another name."""
-    for end in ENDS:
-        if os.path.exists(room.path(other) + end):
-            os.remove(room.path(other) + end)
-        if os.path.exists(room.path(name) + end):
-            shutil.copyfile(room.path(name) + end, room.path(other) + end)
+    asked(room, 'sealed, put back', office)
 
 
 # ---- a twin
@@ -176,21 +158,18 @@ def try_twins(room):
 
 
 def asked_of_twin(room, what, office, change, texts):
-    """All texts again as they came to the store and as they came to its twin, reports, the texts, and a closing that was done."""
+    """A closing that was done, the archives, reports on numbers and of the archive over HTTP, the texts, and all texts again as they
+    came to the store and as they came to its twin."""
     program, beside = room.program('mixed/office.db'), room.beside
     beside.counted['files of twins, mixed'] += 1
     wanted = ('', 'store: Archive\n', 3) if office.lost else ('ready\n', '', 0)
     beside.expect('files of twins, closed again', what, wanted, program.close(room.path('mixed/first.db')))
-    for words in (('archives',), ('yard',), ('partners',), ('calls',)):
-        beside.report(what, program, office, *words)
-    for code, number in [('HAULA', 1), ('HAULB', 1), ('LINEA', 1), ('QUAY1', 1)]:
-        for kind in ('reply', 'contrl', 'ticket'):
-            beside.report(what, program, office, kind, '%s/%d' % (code, number))
-    beside.texts(what, program, office, DAY.random)
-    paths = ['/archives/1/yard', '/archives/1/calls', '/replies/HAULA/1', '/yard']
+    beside.report(what, program, office, 'archives')
+    paths = ['/%s/%s/1' % (kind, code) for kind in ('replies', 'contrls', 'tickets') for code in office.setup.partners]
+    paths += ['/archives/1/yard', '/archives/1/calls', '/yard', '/partners', '/calls']
     beside.serve(what, program, office, [get(path) for path in paths])
-    for each in (change, of_twin, str):
-        beside.deliver(what, program, office, '\n'.join(each(text) for text in texts))
+    beside.texts(what, program, office, DAY.random)
+    beside.deliver(what, program, office, '\n'.join(each(text) for each in (change, of_twin, str) for text in texts))
 
 
 DAY = Day('seals', DEMO)
