@@ -48,11 +48,16 @@ none_among (suc count) call side = tt
 pub none_named : NamesAll empty_register []
 none_named = record { counted = refl; named = λ partner number from. refl; lists = λ call side. tt; among = none_among; of_calls = λ name. inl refl }
 
-pub none_shelved : {S F : Type 0} (g : Ghosts S) (is_known : ℕ → Type 0) (holds : List Archive → F → Type 0) (shelf : F) (names : Register) (opened : List (Opened S g)) → holds [] shelf → register_content names ≡ empty_register → opened ≡ [] → AreShelved g is_known holds [] shelf names opened
-none_shelved g is_known holds shelf names opened on_shelf empty none = record {
+-- none is open of those on the shelf
+pub none_opened : {S F : Type 0} (g : Ghosts S) (is_known : ℕ → Type 0) (holds : List Archive → F → Type 0) (list : List Archive) (shelf : F) (names : Register) (opened : List (Opened S g)) → holds list shelf → NamesAll (register_content names) list → opened ≡ [] → AreShelved g is_known holds list shelf names opened
+none_opened g is_known holds list shelf names opened on_shelf named none = record {
   on_shelf = on_shelf;
-  are_named = subst (λ (r : RegisterContent). NamesAll r []) (sym empty) none_named;
+  are_named = named;
   few_open = subst (λ l. length l ≤ 4) (sym none) (omega arith);
-  are_open = subst (AllByRecursion (IsOpenIfKnown g is_known [])) (sym none) tt;
+  are_open = subst (AllByRecursion (IsOpenIfKnown g is_known list)) (sym none) tt;
   are_sealed = subst (AreSealed g (register_content names)) (sym none) tt;
 }
+
+pub none_shelved : {S F : Type 0} (g : Ghosts S) (is_known : ℕ → Type 0) (holds : List Archive → F → Type 0) (shelf : F) (names : Register) (opened : List (Opened S g)) → holds [] shelf → register_content names ≡ empty_register → opened ≡ [] → AreShelved g is_known holds [] shelf names opened
+none_shelved g is_known holds shelf names opened on_shelf empty none =
+    none_opened g is_known holds [] shelf names opened on_shelf (subst (λ (r : RegisterContent). NamesAll r []) (sym empty) none_named) none

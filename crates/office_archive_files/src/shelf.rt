@@ -97,8 +97,7 @@ impl<'a, B: ArchiveStart> FileShelf<'a, B> {
         }
     }
 
-    /// The archive at a place, to be only read: NO_ARCHIVE if it is not there, or not its own; Memory says nothing of it. Of one
-    /// with seals only the registers are looked at.
+    /// The archive at a place, to be only read: NO_ARCHIVE if it is not there, or not its own; Memory says nothing of it.
     pub(crate) fn own_archive(
         &self,
         names: &Register,
@@ -108,15 +107,26 @@ impl<'a, B: ArchiveStart> FileShelf<'a, B> {
             HoldArchiveAt (image_at B.Start) B.place list → IsOpenAt over_files list place archive.conn) }
         ensures fault { IfErr result (SaysNoArchive NO_ARCHIVE) }
     {
-        let found = if are_seals_of(&names.sealed, place) {
-            self.shown(names, place)
-        } else {
-            self.opened(names, place)
-        };
-        match found {
+        match self.shown_or_opened(names, place) {
             Ok(archive) => Ok(archive),
             Err(fault) => Err(as_no_archive(fault)),
         }
+    }
+
+    /// The archive at a place, to be only read: of one with seals only the registers are looked at. Another fault than Memory says
+    /// that it is not there, or not its own.
+    fn shown_or_opened(
+        &self,
+        names: &Register,
+        place: u16,
+    ) -> Result<Looked<FileStore<FileFrom<B>>>, TableFault>
+        ensures { IfOk result (λ archive. (list : List Archive) → HoldArchiveAt (image_at B.Start) place list →
+            IsOpenAt over_files list place archive.conn) }
+    {
+        if are_seals_of(&names.sealed, place) {
+            return self.shown(names, place);
+        }
+        self.opened(names, place)
     }
 
     /// The file that the registers name as the archive of a place, to be only read.

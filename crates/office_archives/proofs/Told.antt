@@ -1,6 +1,6 @@
 -- What a store's rows and its archives tell, and what the rows after the events tell.
 use Rattle.std.specs.{Prelude.{◌==◌, nat_lt, not, filter, Contains, string_bytes, ◌&&◌, nat_le, max, if◌then◌else◌, find, slice_get}, List.Sorted.IsPermutation}
-use Rattle.std.{specs.{Option.{option_and_then, option_map, option_or}, List.{AllByRecursion, list_all}}, proofs.lemmas.List.take_all}
+use Rattle.std.{specs.{Option.{option_and_then, option_map, option_or}, List.{AllByRecursion, list_all}}, proofs.lemmas.List.{take-append-le, take_all}}
 use Rattle.std.proofs.Common.{◌≡◌, ℕ, ◌+◌, ◌<◌, List, [], ◌∷◌, length, map, take, Bool, true, false, cond, Option, None, Some, refl, sym, ap, subst, ◌∙◌, arith, zero, suc, ◌-◌, ◌≤◌, ◌++◌, inl, inr, ◌⊎◌}
 use Rattle.std.proofs.{lemmas.Bool.{and_parts, eqb-true, leb-true, ltb-true, le-leb, leb-false}, lemmas.List.Folds.find-append}
 use Rattle.edi_messages.specs.{declared.codes.PartnerKind.PartnerKind, Purposes.CallContent}
@@ -290,11 +290,6 @@ found_each f P (y ∷ xs) x all found = by (f y) (λ later. found_each f P xs x 
     by true rest here = let same : y ≡ x = cc in subst P same all.0
     by false rest later = rest later
 
-take_before : {A : Type 0} (n : ℕ) (xs ys : List A) → n ≤ length xs → take n (xs ++ ys) ≡ take n xs
-take_before zero xs ys low = refl
-take_before (suc n) [] ys low = absurd (omega (arith, low))
-take_before (suc n) (x ∷ xs) ys low = ap (λ l. x ∷ l) (take_before n xs ys (omega (arith, low)))
-
 -- ---- segments
 
 -- a number that a segment reaches is closed
@@ -426,7 +421,7 @@ module _ (names : RegisterContent) (list : List Archive) (archive : ArchiveConte
       by true e =
           let low = leb-true count (length list) e in
           subst (λ rows. AreKeptIn call side rows (take count more)) (sym (all_later_put count (length list + 1) lists names.lists own_lists (omega (arith, low))))
-          (subst (AreKeptIn call side (lists_among count names.lists)) (sym (take_before count list (one ∷ []) low)) (are.among count call side))
+          (subst (AreKeptIn call side (lists_among count names.lists)) (sym (take-append-le count list (one ∷ []) low)) (are.among count call side))
       by false e =
           let high = leb-false count (length list) e in
           let old = up_to_most most count names.lists (omega (arith, are.counted, high)) (and_parts lists_within lists_rise sound_lists).0 in

@@ -679,6 +679,11 @@ read_clean r clean = omega (arith, r.survives.clean)
 pub clean_before : {X E : Type 0} {old new : State} {result : Result X E} → IsReadIfOpen old new result → HasCleanDisk new → HasCleanDisk old
 clean_before r clean = omega (arith, r.survives.clean)
 
+-- a file that was not read, whatever came of it
+pub unread : {X E : Type 0} (now : State) (result : Result X E) → IsReadIfOpen now now result
+unread now (Ok x) = none_read now x
+unread now (Err e) = if_open_failed e (none_read {E = Unit {0}} now (tt {0}))
+
 pub if_open_after : {X Y Z E F G : Type 0} {a b c : State} {x : X} {y : Y} (z : Z) → IsReadIfOpen {E = E} a b (Ok x) → IsReadIfOpen {E = F} b c (Ok y) → IsReadIfOpen {E = G} a c (Ok z)
 if_open_after {a} {b} {c} z p q = record {
   same = λ clean.

@@ -12,7 +12,7 @@ use Rattle.office_tables.proofs.MadeLemmas.{clean_first}
 use Rattle.office_rows.{specs.{Stored.{HasRows, StoresRows}, Tables.office_schema}, proofs.Creating.stores}
 use Rattle.office_admission.specs.{Given.IsGiven, Setups.{SetupContent, setup_content}, declared.setup.Setup.Setup, Limits.most_partners}
 use Rattle.office_closing.specs.{Register.{RegisterContent, closed_by, is_newer_than, is_of_terminal, last_closed, newest_visit}, declared.register.Segment.Segment}
-use Rattle.office_closing.specs.Sound.{are_in_order, are_sound_archives, are_sound_lists, are_sound_segments, are_sound_taken, close_more, is_sound, is_sound_mark, is_within}
+use Rattle.office_closing.specs.Sound.{are_in_order, are_sound_archives, are_sound_lists, are_sound_sealed, are_sound_segments, are_sound_taken, close_more, is_sound, is_sound_mark, is_within}
 use Rattle.office_commands.specs.{Opening.{BeginsAt, Shows}, Beside.{IsLoaded, IsOfDay, IsOfTerminal, IsOpenedOver, IsOpenedWhole, OpensFor, OpensOn, OpensWith}}
 use Rattle.office_desk.specs.{Beside.{IsBeside, IsOrNone}, Desks.{IsSound, OpensAt}, Telling.Holds, declared.beside.Beside.Beside, declared.desk.Desk.Desk}
 use Rattle.office_desk.proofs.{DeliverLemmas.{beside_loaded, office_with, shown_by_own}, HoldLemmas.{held_leaves, nexts_loaded}, OwnNumbers.codes_after}
@@ -87,7 +87,7 @@ none_within (segment ∷ segments) all =
 pub closes_nothing : (names : RegisterContent) → IsTrue (is_sound names) → names.archives ≡ [] → closed_by names ≡ nothing_closed
 closes_nothing names sound none =
     let many : ℕ = length names.archives in
-    let rest : Bool = are_sound_lists many names.lists && (are_sound_taken many names.taken && is_sound_mark names.closed_for) in
+    let rest : Bool = are_sound_lists many names.lists && (are_sound_taken many names.taken && (are_sound_sealed many names.sealed && is_sound_mark names.closed_for)) in
     let all = (and_parts (are_sound_archives names.archives) (are_sound_segments many names.segments && rest) sound).1 in
     let segments = (and_parts (are_sound_segments many names.segments) rest all).0 in
     let within = (and_parts (list_all (is_within many) names.segments) (are_in_order 0 0 names.segments && close_more [] names.segments) segments).0 in

@@ -77,9 +77,9 @@ pub returns-in_err-sealed-clause-read : goal.returns-in_err-sealed-clause-read
 returns-in_err-sealed-clause-read g c =
     let p = err_from_is_err_and c.from_residual-in_err-sealed.result c.from_residual-in_err-sealed.ensures.1 in
     rw (p.1, p.2) (record {
-      store = failed _ (then_ok {F = CloseFault} c.in_ok-plan.plan (compared_store c.in_ok-named.named c.in_ok-own.ensures.rows_read c.in_ok-named.ensures.read c.in_ok-seals.ensures.store_read) c.in_ok-check_order.ensures.store_read);
+      store = failed _ (then_ok {F = CloseFault} {G = CloseFault} c.in_ok-plan.plan (compared_store c.in_ok-named.named c.in_ok-own.ensures.rows_read c.in_ok-named.ensures.read c.in_ok-seals.ensures.store_read) c.in_ok-check_order.ensures.store_read);
       register = failed _ c.in_ok-own.ensures.register_read;
-      archive = failed _ (then_ok {F = CloseFault} c.in_ok-plan.plan (then_if_open {Z = Unit {0}} {E = CloseFault} {F = CloseFault} {G = CloseFault} tt c.in_ok-copy.ensures.rows_read c.in_ok-seals.ensures.archive_read) c.in_ok-check_order.ensures.archive_read);
+      archive = failed _ (then_ok {F = CloseFault} {G = CloseFault} c.in_ok-plan.plan (then_if_open {Z = Unit {0}} {E = CloseFault} {F = CloseFault} {G = CloseFault} tt c.in_ok-copy.ensures.rows_read c.in_ok-seals.ensures.archive_read) c.in_ok-check_order.ensures.archive_read);
       archive_register = failed _ c.in_ok-copy.ensures.register_read;
     })
 

@@ -105,7 +105,7 @@ returns-in-Some-clause-ok c names store archive =
         sym c.in_ok-may.ensures ∙ v.if-branch.true,
         ap sound.is_file_name (store ∙ sym v.as_bytes.ensures.value) ∙ sym v.is_file_name-may.ensures ∙ sym v.may-is ∙ c.if-may.true,
       )
-      | else-branch v ↦ absurd (false≢true (sym v.may-is ∙ c.if-may.true))
+      | else-branch v ↦ absurd (false≢true (sym v.if-branch.false ∙ sym v.may-is ∙ c.if-may.true))
     ] in
     comes_on own copy names lists taken for sealed with_ c.tells_same-is_same.result c.tells_same-has_archive.result c.mark_of-mark.result (register_content c.in_ok-raised.raised) c.requires.unclosed c.tells_same-is_same.ensures is_raised c.tells_same-has_archive.ensures marked may.0 may.1 c.in-Some.stage c.in-Some.ensures
 

@@ -1,6 +1,6 @@
 use Rattle.std.proofs.{Common.{◌≡◌, ap, subst}, lemmas.Result.err_from_is_err_and}
 use Rattle.sqlite.specs.{Effect.Database, Held.state}
-use Rattle.office_admission.specs.Setups.{SetupContent}
+use Rattle.office_admission.specs.Setups.{SetupContent, setup_content}
 use Rattle.office_rows.specs.Tables.{office_schema}
 use Rattle.office_loading.specs.{Closed.ClosedContent, Tables.LoadsOwn}
 use Rattle.office_tables.proofs.{MadeLemmas.clean_first, WriteLemmas.{one_read, only_on}}
@@ -34,4 +34,4 @@ returns-in_err-setup-clause-refused g c =
 
 pub returns-clause-loads : goal.returns-clause-loads
 returns-clause-loads g c clean schema =
-    subst (λ (k : ClosedContent). LoadsOwn k (state g.S.Store c.args.looked.now.conn).committed _ _) c.in_ok-closed.ensures (c.in_ok-setup.ensures.loaded clean schema)
+    subst (λ (k : ClosedContent). LoadsOwn k (state g.S.Store c.args.looked.now.conn).committed (setup_content c.in_ok-setup.setup) c.in_ok-setup.there.terminal) c.in_ok-closed.ensures (c.in_ok-setup.ensures.loaded clean schema)

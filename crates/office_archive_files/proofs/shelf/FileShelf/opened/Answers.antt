@@ -9,4 +9,4 @@ returns-then-is_own-clause-opened g c list hold =
 
 -- It shows what was read of it.
 pub returns-then-is_own-clause-passes : goal.returns-then-is_own-clause-passes
-returns-then-is_own-clause-passes g c = rw c.in_ok-is_own.was at (c.is_own.ensures.passes c.in_ok-archive.ensures.shows) c.if-is_own.true
+returns-then-is_own-clause-passes g c = c.in_ok-is_own.ensures.passes c.in_ok-archive.ensures.shows c.if-is_own.true

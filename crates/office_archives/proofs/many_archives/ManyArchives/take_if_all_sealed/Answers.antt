@@ -5,15 +5,6 @@ use Rattle.office_archives.specs.Shelves.{ShowsSo}
 use Rattle.office_archives.proofs.Rising.{open_read}
 use Rattle.office_archives.proofs.many_archives.ManyArchives.take_if_all_sealed.Goals as goal
 
--- they were found before
-pub returns-then-opened-is_sealed-clause-sealed : goal.returns-then-opened-is_sealed-clause-sealed
-returns-then-opened-is_sealed-clause-sealed g c are =
-    let opened = c.in_ok-opened.opened in
-    let names = register_content c.args.self.now.register in (
-      c.in_ok-opened.ensures.opened,
-      subst (λ place. ShowsSo g.S.Store opened.archive.conn (HasSeals names place)) c.in_ok-opened.ensures.place (c.in_ok-opened.ensures.said are c.if-opened-is_sealed.true),
-    )
-
 -- it was only read
 pub returns-then-has-clause-sealed : goal.returns-then-has-clause-sealed
 returns-then-has-clause-sealed g c are =

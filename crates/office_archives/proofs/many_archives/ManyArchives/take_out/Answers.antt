@@ -1,4 +1,4 @@
-use Rattle.std.{specs.{Prelude.remove, Option.unwrap_or}, proofs.Common.{◌≡◌, None, Some, option_map, refl, sym, ap, subst, ◌∙◌}}
+use Rattle.std.{specs.{Prelude.remove, Option.unwrap_or}, proofs.Common.{◌≡◌, ◌<◌, None, Some, option_map, refl, sym, ap, subst, ◌∙◌}}
 use Rattle.office_closing.specs.Register.{register_content}
 use Rattle.office_archives.specs.Shelves.{IsOpenAt, IsOpenIfKnown, IsSealedIfSaid, index_at, left_open, with_room}
 use Rattle.office_archives.proofs.Rising.{all_at, at_place, leaves_open, one_at, within}
@@ -7,7 +7,8 @@ use Rattle.office_archives.proofs.many_archives.ManyArchives.take_out.Goals as g
 pub remove-requires : goal.remove-requires
 remove-requires g c =
     let place = c.args.place in
-    within g.S.Store place c.args.self.now.opened.items c.in-Some.index (ap (index_at place) (sym c.deref.ensures.value) ∙ sym c.index_at.ensures ∙ c.in-Some.is)
+    subst (λ n. c.in-Some.index < n) (sym c.args.self.now.opened.ok.0)
+    (within g.S.Store place c.args.self.now.opened.items c.in-Some.index (ap (index_at place) (sym c.deref.ensures.value) ∙ sym c.index_at.ensures ∙ c.in-Some.is))
 
 -- the one that is open
 pub returns-in-Some : goal.returns-in-Some
@@ -38,7 +39,7 @@ returns-in_ok-archive-in-None g c =
     let left : c.make_room.new.opened.items ≡ left_open place items = c.make_room.ensures ∙ sym (ap (λ o. unwrap_or (option_map (remove items) o) (with_room items)) none) in
     record {
       place = refl;
-      opened = λ known list are. c.in_ok-archive.ensures.opened known list are.on_shelf;
+      opened = λ known list are. c.in_ok-archive-in-None.ensures.opened known list are.on_shelf;
       said = λ are found. absurd cc;
       leaves = leaves_open g.S.Store g.F.Shelf.is_known g.F.Shelf.holds self.shelf c.open.new.self self.register self.register place items c.make_room.new.opened.items refl c.open.ensures.same left;
     }

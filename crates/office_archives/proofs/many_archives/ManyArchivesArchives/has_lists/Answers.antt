@@ -30,16 +30,16 @@ none_before (suc count) (one ∷ list) name none = by (lines_away list name) (no
 -- ---- the lists of the first so many archives
 
 none_among : (count : ℕ) (lists : List SettledList) → list_any (λ list. is_among count (list_content list)) lists ≡ false → lists_among count (map list_content lists) ≡ []
-none_among count [] no = refl
-none_among count (list ∷ lists) no = by (is_among count (list_content list)) (none_among count lists) no
+none_among count [] off = refl
+none_among count (list ∷ lists) off = by (is_among count (list_content list)) (none_among count lists) off
   where
     by : (is : Bool) → (list_any (λ list. is_among count (list_content list)) lists ≡ false → lists_among count (map list_content lists) ≡ []) → (is || list_any (λ list. is_among count (list_content list)) lists) ≡ false → cond is (list_content list ∷ lists_among count (map list_content lists)) (lists_among count (map list_content lists)) ≡ []
-    by true rest no = absurd (true≢false no)
-    by false rest no = rest no
+    by true rest off = absurd (true≢false off)
+    by false rest off = rest off
 
 some_among : (count : ℕ) (lists : List SettledList) → list_any (λ list. is_among count (list_content list)) lists ≡ true → lists_among count (map list_content lists) ≡ [] → ⊥
-some_among count [] yes none = true≢false (sym yes)
-some_among count (list ∷ lists) yes none = by (is_among count (list_content list)) (some_among count lists) yes none
+some_among count [] on none = true≢false (sym on)
+some_among count (list ∷ lists) on none = by (is_among count (list_content list)) (some_among count lists) on none
   where
     by : (is : Bool) → (list_any (λ list. is_among count (list_content list)) lists ≡ true → lists_among count (map list_content lists) ≡ [] → ⊥) → (is || list_any (λ list. is_among count (list_content list)) lists) ≡ true → cond is (list_content list ∷ lists_among count (map list_content lists)) (lists_among count (map list_content lists)) ≡ [] → ⊥
     by true rest found none = absurd cc
@@ -53,16 +53,16 @@ returns g c archives are =
     let rows = lists_among count (map list_content own) in
     let before = take count archives in
     record {
-      none = λ no name. elim (are.are_named.of_calls name) [
+      none = λ off name. elim (are.are_named.of_calls name) [
         | inl never ↦ none_before count archives name never
         | inr is ↦
             let kept = are.are_named.among count is.0 is.1 in
-            let none = none_among count own (sym c.has_lists.ensures ∙ no) in
+            let none = none_among count own (sym c.has_lists.ensures ∙ off) in
             subst (λ n. lines_away before n ≡ None) is.2
             (kept_none is.0 is.1 (lines_away before (list_name is.0 is.1)) (subst (λ l. IsKeptAs is.0 is.1 (lines_of_list l is.0 is.1) (lines_away before (list_name is.0 is.1))) none kept))
       ];
-      some = λ yes.
-          let told = some_told rows (some_among count own (sym c.has_lists.ensures ∙ yes)) in
+      some = λ on.
+          let told = some_told rows (some_among count own (sym c.has_lists.ensures ∙ on)) in
           let name = list_name told.0 told.1 in (
             name,
             kept_some told.0 told.1 told.2.0 (lines_away before name) (subst (λ text. IsKeptAs told.0 told.1 text (lines_away before name)) told.2.1 (are.are_named.among count told.0 told.1)),
