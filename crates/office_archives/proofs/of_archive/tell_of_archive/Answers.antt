@@ -11,9 +11,8 @@ returns-in-Visits-clause-told g c = λ whole.
 
 pub returns-in-Calls-clause-told : goal.returns-in-Calls-clause-told
 returns-in-Calls-clause-told g c = λ whole.
-    let there = λ list are. (c.has_place.ensures list are).0 c.if-not-has_place.false in
-    if_ok c.tell_calls.result (λ found told. told_there g.S.Store g.A.Archives.are c.args.desk.now c.args.archives.now c.args.place c.args.query.now (option_map string_bytes found) there
-    (λ content es stand. told (content_after content es) stand.list stand.these (there stand.list stand.these)))
+    if_ok c.tell_calls.result (λ found told. told_there g.S.Store g.A.Archives.are c.args.desk.now c.args.archives.now c.args.place c.args.query.now (option_map string_bytes found) (λ list are. (c.has_place.ensures list are).0 c.if-not-has_place.false)
+    (λ content es stand. told (content_after content es) stand.list stand.these ((c.has_place.ensures stand.list stand.these).0 c.if-not-has_place.false)))
     (c.tell_calls.ensures.told whole)
 
 pub returns-in-Reply-clause-told : goal.returns-in-Reply-clause-told
