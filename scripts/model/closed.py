@@ -20,9 +20,10 @@ from .deliveries import first_text, kept_texts
 from .events import Added, refusal
 from .files import flip
 from .naming import SIDES
+from .refused_closings import edit
 from .reports import OF_LISTS, WHOLE
 from .requests import every_key, get, of_archive, path_of, question, random_requests
-from .rows import ENDS, REGISTER, copy_files, interchange_rows, rows_in, rows_of, standing_in
+from .rows import ENDS, REGISTER, copy_files, identities, interchange_rows, rows_in, rows_of, standing_in
 from .setup import DEMO, read_setup
 from .setups import Files, files_of
 from .stores import Program
@@ -335,7 +336,16 @@ def swapped(path, closable):
     return 'OTHER'
 
 
-LOSSES = [removed, unmarked, of_another, a_text, without_register, swapped]
+def of_twin(path, closable):
+    """The archive of a store that had as many texts, and others."""
+    place = [each for each, _office in closable.archives].index(path) + 1
+    if not numbers_of(closable, place):
+        return unmarked(path, closable)
+    edit(path, "UPDATE interchange SET body = CAST(body || x'0A' AS BLOB)")
+    return 'OTHER'
+
+
+LOSSES = [removed, unmarked, of_another, a_text, without_register, swapped, of_twin]
 
 
 @contextmanager
@@ -419,24 +429,29 @@ def is_allowed(line, wanted):
     return line in (wanted, '{"answer":"not now"}')
 
 
-def are_allowed(office, place, stood, got):
+def are_allowed(office, place, stood, is_sealed, got):
     """Whether texts may be printed so where the archive of a place is spoiled: all; or the first and then that it can't be asked.
-    Where SQLite reads other bytes there, that holds of the texts before that archive."""
+    Where SQLite reads other bytes there, that holds of the texts before that archive; under a number that it closed, there are
+    no others."""
     printed, told, ended = got
     office.lost = {} if stood else {place: 'OTHER'}
     kept = text_of(kept_texts(office.deliveries)) if stood else texts_before_lost(office)[-1]
     office.lost = {}
-    whole = (told, ended) == ('', 0) and (printed == kept if stood else printed.startswith(kept))
-    return whole or (told, ended) == ('store: Store\n', 3) and (
-        kept.startswith(printed) or not stood and printed.startswith(kept))
+    if (told, ended) == ('store: Store\n', 3):
+        return kept.startswith(printed) or not stood and is_sealed and printed.startswith(kept)
+    return (told, ended) == ('', 0) and is_sealed and (printed == kept if stood else printed.startswith(kept))
 
 
-def stand_as_ever(path, archive):
-    """Whether SQLite's own library reads the interchanges of an archive as they stood in it."""
+def stand_as_ever(path, archive, pairs):
+    """Whether SQLite's own library reads the interchanges of an archive as they stood in it; and whether it doesn't read others
+    under the numbers that the archive closed."""
     try:
-        return [row[1:] for row in standing_in(path)] == interchange_rows(archive)
+        found = [row[1:] for row in standing_in(path)]
     except sqlite3.DatabaseError:
-        return False
+        return False, True
+    wanted = interchange_rows(archive)
+    closed = [[row for row in rows if row[:2] in pairs] for rows in (found, wanted)]
+    return found == wanted, sorted(closed[0]) == sorted(closed[1])
 
 
 def try_spoiled(closable):
@@ -456,7 +471,9 @@ def try_spoiled(closable):
         closable.beside.expect('spoiled, told', closable.name, ('', True), (told, ended in (0, 1, 3)))
         closable.beside.counted['spoiled: not now'] += got.count('{"answer":"not now"}')
         given = closable.program.texts(0)
-        allowed = are_allowed(office, place, stand_as_ever(path, archive), given)
+        known = identities(office.setup)
+        stood = stand_as_ever(path, archive, {(known[code], number) for code, number in pairs})
+        allowed = are_allowed(office, place, *stood, given)
         closable.beside.expect('spoiled, the texts', closable.name, True, allowed or given)
         closable.beside.counted['spoiled: texts, ' + (given[1].strip() or 'all')] += 1
         later = [closable.day.delivery() for _delivery in range(3)]
