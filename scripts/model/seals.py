@@ -32,7 +32,7 @@ CHANGED = [
     ('HAULA', 1), ('HAULA', 50), ('HAULA', 51), ('HAULA', 77), ('HAULA', 100), ('HAULA', 101), ('HAULA', 102), ('HAULA', 151),
     ('HAULA', 152), ('HAULB', 2), ('HAULB', 4), ('LINEA', 50), ('LINEA', 51)]
 PATHS = [
-    '/tickets/HAULA/49', '/archives/1/yard', '/archives/2/blocks', '/archives/2/replies/HAULA/1', '/archives/3/replies/HAULA/102',
+    '/archives/1/yard', '/archives/2/blocks', '/archives/2/replies/HAULA/1', '/archives/3/replies/HAULA/102',
     '/archives/3/partners', '/archives/1/replies/HAULB/2']
 
 

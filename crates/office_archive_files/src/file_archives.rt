@@ -61,7 +61,7 @@ impl<'a, B: ArchiveStart> StoreShelf<'a, B> {
         ensures reads { OnlyReads (file_state archive.old.conn) (file_state archive.new.conn) result }
     {
         match &self.shelf {
-            Some(shelf) => shelf.is_own(archive, names, place),
+            Some(shelf) => shelf.is_own_archive(archive, names, place),
             None => Err(TableFault::Store(NO_ARCHIVE)),
         }
     }

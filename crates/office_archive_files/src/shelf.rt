@@ -183,6 +183,21 @@ impl<'a, B: ArchiveStart> FileShelf<'a, B> {
         Ok(reaches(&beside, &named.segments, named.visits))
     }
 
+    /// The same. Another fault than Memory says that it is not its own.
+    pub(crate) fn is_own_archive(
+        &self,
+        archive: &mut Looked<FileStore<FileFrom<B>>>,
+        names: &Register,
+        place: u16,
+    ) -> Result<bool, TableFault>
+        ensures reads { OnlyReads (file_state archive.old.conn) (file_state archive.new.conn) result }
+    {
+        match self.is_own(archive, names, place) {
+            Ok(is_own) => Ok(is_own),
+            Err(fault) => Err(as_no_archive(fault)),
+        }
+    }
+
     /// The archive at a place as the store's register and its own say, if its own is that of this place.
     fn named(&self, names: &Register, place: u16) -> Result<Named, TableFault>
         ensures { IfOk result (λ named. IsNamedAt (string_bytes self.now.store) (register_content names.now) place
@@ -310,7 +325,7 @@ impl<B: ArchiveStart> Shelf<FileStore<FileFrom<B>>> for FileShelf<'_, B> {
         names: &Register,
         place: u16,
     ) -> Result<bool, TableFault> {
-        self.is_own(archive, names, place)
+        self.is_own_archive(archive, names, place)
     }
 }
 
