@@ -7,7 +7,7 @@ from functools import partial
 
 from . import (
     cases, closed, closed_alone, counts, crowded, damaged, directory, full, meanings, migrated, refused_closings, replaced, samples,
-    shown, stores, worked)
+    seals, shown, stores, worked)
 from .days import stream
 from .files import PROGRAM, TOP
 from .messages import MESSAGE_FAULTS
@@ -153,6 +153,7 @@ def main():
         stores.try_all(beside)
         migrated.try_all(beside)
         refused_closings.try_all(beside)
+        seals.try_all(beside)
         closed.try_all(beside)
     failed += stores.told(beside)
     for mix in mixes:

@@ -20,6 +20,7 @@ from .deliveries import first_text, kept_texts
 from .events import Added, refusal
 from .files import flip
 from .naming import SIDES
+from .refused_closings import edit
 from .reports import OF_LISTS, WHOLE
 from .requests import every_key, get, of_archive, path_of, question, random_requests
 from .rows import ENDS, REGISTER, copy_files, identities, interchange_rows, rows_in, rows_of, standing_in
@@ -332,7 +333,16 @@ def swapped(path, closable):
     return 'OTHER'
 
 
-LOSSES = [removed, unmarked, of_another, a_text, without_register, swapped]
+def of_twin(path, closable):
+    """The archive of a store that had as many texts, and others."""
+    place = [each for each, _office in closable.archives].index(path) + 1
+    if not numbers_of(closable, place):
+        return unmarked(path, closable)
+    edit(path, "UPDATE interchange SET body = CAST(body || x'0A' AS BLOB)")
+    return 'OTHER'
+
+
+LOSSES = [removed, unmarked, of_another, a_text, without_register, swapped, of_twin]
 
 
 @contextmanager
@@ -411,34 +421,34 @@ def spoiled(path, closable):
     flip(name, chance)
 
 
-def read_by_sqlite(path):
-    """The interchanges that SQLite's own library reads in an archive, by account and number."""
-    return {row[:2]: row for row in rows_in(path)[0].get('interchange', [])}
+def is_allowed(line, wanted):
+    """Whether a closed number may be answered so: as ever, or `not now`, whatever the archive keeps."""
+    return line in (wanted, '{"answer":"not now"}')
 
 
-def is_allowed(line, wanted, row, stood):
-    """Whether a closed number may be answered so: as ever, or `not now`; and otherwise where SQLite reads other bytes there."""
-    return line in (wanted, '{"answer":"not now"}') or row not in (None, stood)
-
-
-def are_allowed(office, place, stood, got):
-    """Whether texts may be printed so where the archive of a place is spoiled: all; or the first and then that it can't be asked.
-    Where SQLite reads other bytes there, that holds of the texts before that archive."""
+def are_allowed(office, place, stood, is_sealed, got):
+    """Whether texts may be printed so where the archive of a place is spoiled: all; or the first and then that it can't be asked, or
+    is damaged. Where SQLite reads other bytes there, that holds of the texts before that archive; under a number that it closed, there are
+    no others."""
     printed, told, ended = got
     office.lost = {} if stood else {place: 'OTHER'}
     kept = text_of(kept_texts(office.deliveries)) if stood else texts_before_lost(office)[-1]
     office.lost = {}
-    whole = (told, ended) == ('', 0) and (printed == kept if stood else printed.startswith(kept))
-    return whole or (told, ended) == ('store: Store\n', 3) and (
-        kept.startswith(printed) or not stood and printed.startswith(kept))
+    if ended == 3 and told in ('store: Store\n', 'store: Damaged\n'):
+        return kept.startswith(printed) or not stood and is_sealed and printed.startswith(kept)
+    return (told, ended) == ('', 0) and is_sealed and (printed == kept if stood else printed.startswith(kept))
 
 
-def stand_as_ever(path, archive):
-    """Whether SQLite's own library reads the interchanges of an archive as they stood in it."""
+def stand_as_ever(path, archive, pairs):
+    """Whether SQLite's own library reads the interchanges of an archive as they stood in it; and whether it doesn't read others
+    under the numbers that the archive closed."""
     try:
-        return [row[1:] for row in standing_in(path)] == interchange_rows(archive)
+        found = [row[1:] for row in standing_in(path)]
     except sqlite3.DatabaseError:
-        return False
+        return False, True
+    wanted = interchange_rows(archive)
+    closed = [[row for row in rows if row[:2] in pairs] for rows in (found, wanted)]
+    return found == wanted, sorted(closed[0]) == sorted(closed[1])
 
 
 def try_spoiled(closable):
@@ -447,20 +457,20 @@ def try_spoiled(closable):
     office, place = closable.office, closable.chance.randrange(len(closable.archives)) + 1
     path, archive = closable.archives[place - 1]
     pairs = sorted({each[:2] for each in numbers_of(closable, place)})
-    ids = [(identities(office.setup)[code], number) for code, number in pairs]
-    stood = {row[:2]: row for row in interchange_rows(archive)}
     with kept_aside(closable):
         spoiled(path, closable)
-        rows, texts = read_by_sqlite(path), [first_text(office.deliveries, *pair) for pair in pairs]
+        texts = [first_text(office.deliveries, *pair) for pair in pairs]
         wanted = lines(answers(office, '\n'.join(texts)))
         printed, told, ended = closable.program.deliver('\n'.join(texts))
         got = printed.splitlines()
-        allowed = [is_allowed(line, *rest) for line, *rest in zip(got, wanted, map(rows.get, ids), map(stood.get, ids))]
+        allowed = [is_allowed(*pair) for pair in zip(got, wanted)]
         closable.beside.expect('spoiled, the answers', closable.name, [True] * len(texts), allowed)
         closable.beside.expect('spoiled, told', closable.name, ('', True), (told, ended in (0, 1, 3)))
         closable.beside.counted['spoiled: not now'] += got.count('{"answer":"not now"}')
         given = closable.program.texts(0)
-        allowed = are_allowed(office, place, stand_as_ever(path, archive), given)
+        known = identities(office.setup)
+        stood = stand_as_ever(path, archive, {(known[code], number) for code, number in pairs})
+        allowed = are_allowed(office, place, *stood, given)
         closable.beside.expect('spoiled, the texts', closable.name, True, allowed or given)
         closable.beside.counted['spoiled: texts, ' + (given[1].strip() or 'all')] += 1
         later = [closable.day.delivery() for _delivery in range(3)]

@@ -5,13 +5,14 @@ Both are offices of the model, the archive a copy of the store as it was some ti
 of vessels go by the store alone: their lines are kept in its register.
 """
 import copy
+import hashlib
 
 from .deliveries import kept, run
 from .lookups import own_lines
 from .naming import SIDES, lists_named
 from .register import (
-    EMPTY, Archive, Segment, Settled, is_file_name, is_sound, last_closed, with_archive, with_lists, with_taken,
-    without_what_came_with)
+    EMPTY, Archive, Sealed, Segment, Settled, is_file_name, is_sound, last_closed, with_archive, with_lists, with_sealed,
+    with_taken, without_what_came_with)
 from .rows import interchange_rows, partner_rows, visit_rows
 
 
@@ -35,6 +36,25 @@ def taken_by(store, place):
     """All that a store has taken, as the archive of that place is closed."""
     return [
         Segment(identity, place, next_number - 1) for identity, _code, _kind, next_number in partner_rows(store) if next_number > 1]
+
+
+SEALED = 50                 # interchanges that have one seal, at most
+
+
+def seal(rows):
+    """SHA-256 over texts and replies, each after its length in eight bytes."""
+    each = [part for _partner, _number, text, reply in rows for part in (text, reply.encode('utf-8'))]
+    return hashlib.sha256(b''.join(len(part).to_bytes(8, 'big') + part for part in each)).digest()
+
+
+def sealed_by(archive, place):
+    """What is sealed with an archive as it is closed: the terminal's code; of what it closes of each account, by number, a seal of
+    each fifty interchanges and of those that are left."""
+    seals, lasts = b'', dict(closed_by(archive))
+    for identity in sorted(lasts):
+        rows = sorted(row for row in interchange_rows(archive) if row[0] == identity and row[1] <= lasts[identity])
+        seals += b''.join(seal(rows[start:start + SEALED]) for start in range(0, len(rows), SEALED))
+    return Sealed(place, archive.setup.terminal, seals)
 
 
 # ---- what has to be the same
@@ -131,10 +151,13 @@ def close(store, archive, store_file, archive_file):
         return 'Archive'
     if not has_texts(store, archive, is_new and not closed_by(archive)):
         return 'Archive'
+    sealed = sealed_by(archive, place)
+    if is_done and any(other.archive == place and other != sealed for other in store.register.sealed):
+        return 'Archive'
     visits, lists = visits_to_go(store, archive), lists_to_go(store, place) if closed_by(archive) else {}
     archive.register = archive.register._replace(mark=store_file)
     if is_new:
-        store.register = with_taken(with_lists(after, lists.values()), taken_by(store, place))
+        store.register = with_sealed(with_taken(with_lists(after, lists.values()), taken_by(store, place)), sealed)
     store.gone = store.gone | set(visits)
     store.away = store.away | {name for name, settled in lists.items() if settled in store.register.lists}
     return None

@@ -230,11 +230,11 @@ def of_archive(office, head, place, path):
         return kind, None
     if place in office.lost and not (kind in OF_NUMBERS and archive.archive_of(*values)):
         raise Lost
-    archive.lost = office.lost
+    archive.lost, archive.told_still = office.lost, office.told_still
     try:
         return kind, own_report(archive, kind, key)
     finally:
-        archive.lost = {}
+        archive.lost, archive.told_still = {}, frozenset()
 
 
 # ---- the body

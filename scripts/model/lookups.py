@@ -139,12 +139,8 @@ def work(office, vessel, voyage, side):
 
 
 def calls(office):
-    """The lists that stand in the store; if lists were ever put away also how many archives there are."""
-    return own_calls(office) + text_of(archives_line(office) if office.register.lists else [])
-
-
-def own_calls(office):
-    """Each list that has a line, by vessel, voyage and side, with how many of its lines are open and how many are done."""
+    """Each list that has a line in the store, by vessel, voyage and side, with how many of its lines are open and how many are
+    done; if lists were ever put away also how many archives there are."""
     lines = own_lines(office)
     texts = []
     for call in sorted({of_call for of_call, _side, _number in lines}):
@@ -152,7 +148,7 @@ def own_calls(office):
             done = [line.is_done for (of_call, of_side, _number), line in lines.items() if (of_call, of_side) == (call, side)]
             if done:
                 texts.append('%s %s %s %d OPEN %d DONE' % (*call, side.upper(), done.count(False), done.count(True)))
-    return text_of(texts)
+    return text_of(texts + (archives_line(office) if office.register.lists else []))
 
 
 # ---- the partners

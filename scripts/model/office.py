@@ -111,7 +111,8 @@ class Office:
     accounts that were added, and the migration of its store. Each answer is computed from these alone, anew. `version` is
     that of its store. A closing is no event: `register` says what is closed, `gone` has the numbers of the visits that went
     from the store, `away` the calls and sides of the lists that did and were not brought back, `archives` are the offices that its
-    archives are, and `lost` is what is said of one that can't be asked, both by place.
+    archives are, and `lost` is what is said of one that can't be asked, both by place; of that these are `told_still`, accounts
+    with numbers.
 
     For long streams that is too slow: 300 deliveries would take the first of them 300 times. There an office is made
     with `keeps_fold`, and keeps what was admitted and the fold of the order so far: the order after one delivery more begins
@@ -123,6 +124,7 @@ class Office:
         self.opening, self.events, self.version = opening, [], version
         self.kept, self.admitted = Fold(opening) if keeps_fold else None, []
         self.register, self.gone, self.away, self.archives, self.lost = EMPTY, frozenset(), frozenset(), {}, {}
+        self.told_still = frozenset()
 
     @property
     def setup(self):
@@ -201,8 +203,8 @@ class Office:
         self.away = self.away - set(names)
 
     def is_lost(self, partner, number):
-        """Whether the archive that keeps a number can't be asked."""
-        return self.archive_of(partner, number) in self.lost
+        """Whether the archive that keeps a number can't be asked for it."""
+        return self.archive_of(partner, number) in self.lost and (partner, number) not in self.told_still
 
     @property
     def first_lost(self):

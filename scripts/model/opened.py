@@ -120,6 +120,11 @@ def is_of_day(tables, register):
     return all(segment.last < nexts.get(segment.partner, 0) for segment in register.taken)
 
 
+def is_of_terminal(tables, register):
+    """Of the terminal of which the register's archives were closed."""
+    return all(sealed.terminal == dict(tables['setting'])['terminal'] for sealed in register.sealed)
+
+
 def fault_of_rows(tables, versions=(VERSION,), register=EMPTY):
     """Store without a table or its columns; Version where it is another or none, which is before all tables but that of the
     settings; Damaged where the rows are those of no office; else None."""
@@ -131,7 +136,8 @@ def fault_of_rows(tables, versions=(VERSION,), register=EMPTY):
         return 'Store'
     checks = [
         are_readable, is_setup, are_accounts, lambda tables: are_interchanges(tables, register),
-        lambda tables: are_visits(tables, register), are_lines, are_places, lambda tables: is_of_day(tables, register)]
+        lambda tables: are_visits(tables, register), are_lines, are_places, lambda tables: is_of_day(tables, register),
+        lambda tables: is_of_terminal(tables, register)]
     return None if all(check(tables) for check in checks) else 'Damaged'
 
 

@@ -16,7 +16,7 @@ from .days import Day
 from .office import Office
 from .old_stores import write_store
 from .opened import fault_of_rows
-from .register import Archive, Register, Segment, Settled, is_sound
+from .register import Archive, Register, Sealed, Segment, Settled, is_sound
 from .rows import ENDS, REGISTER, REGISTER_COLUMNS, copy_files, registered_in, rows_in, rows_of
 from .setup import DEMO, with_accounts
 from .setups import files_of
@@ -45,7 +45,8 @@ UNSOUND = [
     "INSERT INTO settled VALUES ('%s', 'V12', 2, 1, '')" % ('V' * 36), 'UPDATE taken SET archive = 2',
     'UPDATE taken SET last = 0 WHERE partner = 1', 'UPDATE taken SET last = 1000000000',
     'UPDATE taken SET partner = 1000 WHERE partner = 1', 'UPDATE taken SET partner = 0 WHERE partner = 1',
-    'INSERT INTO taken VALUES (1, 0, 1)']
+    'INSERT INTO taken VALUES (1, 0, 1)', 'UPDATE sealed SET archive = 2', 'UPDATE sealed SET archive = 0',
+    "UPDATE sealed SET terminal = ''", "UPDATE sealed SET terminal = '%s'" % ('T' * 36)]
 EMPTIED = ''.join('DELETE FROM %s;' % table for table in REGISTER_COLUMNS)
 # what makes lines of lists unreadable
 UNREADABLE = [
@@ -55,7 +56,7 @@ UNREADABLE = [
 UNFIT = [
     'UPDATE segment SET last = last + 1 WHERE partner = 1',
     'UPDATE segment SET last = last - 1 WHERE partner = 1 AND last > 1',
-    'DELETE FROM segment WHERE partner = 1', 'UPDATE archive SET visits = 0']
+    'DELETE FROM segment WHERE partner = 1', 'UPDATE archive SET visits = 0', "UPDATE sealed SET terminal = 'TERM2'"]
 # what makes an archive another one than the store in what goes
 CHANGED = [
     "UPDATE interchange SET body = CAST(body || x'0A' AS BLOB) WHERE partner = 1 AND number = 1",
@@ -286,7 +287,7 @@ def judged(path):
     register = Register(
         tuple(Archive(*row) for row in found['archive']), tuple(Segment(*row) for row in found['segment']),
         found['closed_for'][0][0] if found['closed_for'] else None, tuple(Settled(*row) for row in found['settled']),
-        tuple(Segment(*row) for row in found['taken']))
+        tuple(Segment(*row) for row in found['taken']), tuple(Sealed(*row) for row in found['sealed']))
     is_one = len(found['closed_for']) <= 1 and is_sound(register)
     return fault_of_rows(rows_in(path)[0], register=register) if is_one else 'Damaged'
 
@@ -313,28 +314,61 @@ def try_damaged(room, what, change):
     beside.expect(what, change, before, rows_in(store))
 
 
-def try_put_back(room, day):
-    """Files of two days: a store of before a text, which a closing then found taken, and a register of before a closing. The store
-    put back has all that was closed."""
+def with_register_of(room, store, register, other):
+    """A store with the register of a copy of it, under another name."""
+    remove(room.path(other), ENDS)
+    for path, ends in ((store, ENDS[:2]), (register, ENDS[2:])):
+        for end in ends:
+            if os.path.exists(room.path(path) + end):
+                shutil.copyfile(room.path(path) + end, room.path(other) + end)
+
+
+def closed_by_days(room, day):
+    """A store that is closed twice, each time after a call, which the archive has not. Gives the copies of its files of each day,
+    and those of them that have each another register."""
     room.make('office.db', day, DELIVERIES)
-    room.copy('office.db', 'first.db')
-    office, vessels = room.offices[room.path('office.db')], Vessels(day.random, day)
-    for text in vessels.new_call(office):
-        copy_files(room.path('office.db'), room.path('earlier.db'))
-        room.deliver('office.db', [text])
-    room.close('office.db', 'first.db')
+    office, vessels, days, registers = room.offices[room.path('office.db')], Vessels(day.random, day), [], ['day 0.db']
+
+    def keeps():
+        """The files of this day."""
+        days.append('day %d.db' % len(days))
+        copy_files(room.path('office.db'), room.path(days[-1]))
+
+    for name in ('first.db', 'second.db'):
+        room.deliver('office.db', [day.delivery() for _delivery in range(MORE)])
+        room.copy('office.db', name)
+        for text in vessels.new_call(office):
+            keeps()
+            room.deliver('office.db', [text])
+        room.close('office.db', name)
+        keeps()
+        registers.append(days[-1])
     room.beside.counted['lists put away, of which the store put back knows nothing'] += len(office.away)
-    copy_files(room.path('office.db'), room.path('kept.db'))
-    for store, register in (('earlier.db', 'kept.db'), ('kept.db', 'earlier.db')):
-        copy_files(room.path(store), room.path('office.db'))
-        remove(room.path('office.db'), ENDS[2:])
-        for end in ENDS[2:]:
-            if os.path.exists(room.path(register) + end):
-                shutil.copyfile(room.path(register) + end, room.path('office.db') + end)
-        try_damaged(room, 'files of two days', '%s with the register of %s' % (store, register))
-    copy_files(room.path('kept.db'), room.path('office.db'))
+    return days, registers
+
+
+def try_put_back(room, day):
+    """Files of two days: the store of each day with each register. A store that was put back from before a text, which a closing
+    then found taken, has all that was closed."""
+    days, registers = closed_by_days(room, day)
+    for store in days:
+        for register in registers:
+            with_register_of(room, store, register, 'office.db')
+            judge_mix(room, '%s with the register of %s' % (store, register))
+    copy_files(room.path(days[-1]), room.path('office.db'))
     for kind in ('yard', 'archives', 'calls'):
-        room.beside.report('the files of one day', room.program('office.db'), office, kind)
+        room.beside.report('the files of one day', room.program('office.db'), room.offices[room.path('office.db')], kind)
+
+
+def judge_mix(room, what):
+    """A store beside a register, as the model judges both: Damaged for each command, or it is opened."""
+    fault = judged(room.path('office.db'))
+    room.beside.counted['files of two days: ' + str(fault)] += 1
+    if fault:
+        try_damaged(room, 'files of two days', what)
+        return
+    printed, told_of, ended = room.program('office.db').report('partners', '')
+    room.beside.expect('files of two days, opened', what, (True, '', 0), (printed.startswith('PARTNERS'), told_of, ended))
 
 
 def try_registers(room, day):
@@ -348,14 +382,19 @@ def try_registers(room, day):
         room.beside.report('the register put back', room.program('office.db'), room.offices[room.path('office.db')], kind)
 
 
+def try_old(room, day):
+    """Registers of before they had seals."""
+    try_without(room, day, ['sealed'])
+
+
 def try_older(room, day):
     """Registers of before they said what had been taken."""
-    try_without(room, day, ['taken'])
+    try_without(room, day, ['taken', 'sealed'])
 
 
 def try_oldest(room, day):
     """Registers of before lists were put away."""
-    try_without(room, day, ['settled', 'taken'])
+    try_without(room, day, ['settled', 'taken', 'sealed'])
 
 
 def try_without(room, day, missing):
@@ -366,7 +405,7 @@ def try_without(room, day, missing):
     for name in ('office.db', 'first.db'):
         edit(room.path(name) + REGISTER, ''.join('DROP TABLE %s;' % table for table in missing))
     office, vessels = room.offices[room.path('office.db')], Vessels(day.random, day)
-    office.register = office.register._replace(taken=())
+    office.register = office.register._replace(sealed=(), **({'taken': ()} if 'taken' in missing else {}))
     for kind in ('calls', 'archives'):
         room.beside.report('an older register', room.program('office.db'), office, kind)
     for text in vessels.new_call(office):
@@ -406,7 +445,7 @@ def try_unreadable(room, day):
 def try_all(beside):
     """Each in a folder of its own."""
     for trial in (
-            try_files, try_copies, try_orders, try_lacking, try_marks, try_beside, try_registers, try_put_back, try_older,
+            try_files, try_copies, try_orders, try_lacking, try_marks, try_beside, try_registers, try_put_back, try_old, try_older,
             try_oldest, try_unreadable):
         with tempfile.TemporaryDirectory(prefix='beside-') as folder:
             trial(Room(beside, folder), Day(trial.__name__))

@@ -11,10 +11,12 @@ Segment = namedtuple('Segment', 'partner archive last')
 # the lines of a list as they were put away with an archive, as a text: of each its container's number and its port; `side` is 1
 # for a load list, 2 for a discharge list
 Settled = namedtuple('Settled', 'vessel voyage side archive lines')
+# what tells an archive from those of other stores: the terminal's code, and the seals of what it closes
+Sealed = namedtuple('Sealed', 'archive terminal seals')
 # `mark` is the file of the store that goes on, in an archive's own register, and else None; the lists are in order
-Register = namedtuple('Register', 'archives segments mark lists taken')
+Register = namedtuple('Register', 'archives segments mark lists taken sealed')
 
-EMPTY = Register((), (), None, (), ())
+EMPTY = Register((), (), None, (), (), ())
 MOST_ARCHIVES, MOST_ACCOUNTS, MOST_NUMBER = 9999, 999, 999999999
 
 
@@ -55,11 +57,17 @@ def with_taken(register, taken):
     return register._replace(taken=register.taken + tuple(taken))
 
 
+def with_sealed(register, sealed):
+    """With this more that is sealed."""
+    return register._replace(sealed=register.sealed + (sealed,))
+
+
 def without_what_came_with(register, place):
-    """Without the lists that were put away with the archive of that place, and what had been taken then."""
+    """Without the lists that were put away with the archive of that place, what had been taken then and what was sealed."""
     return register._replace(
         lists=tuple(settled for settled in register.lists if settled.archive != place),
-        taken=tuple(segment for segment in register.taken if segment.archive != place))
+        taken=tuple(segment for segment in register.taken if segment.archive != place),
+        sealed=tuple(sealed for sealed in register.sealed if sealed.archive != place))
 
 
 def is_name(text):
@@ -98,4 +106,6 @@ def is_sound(register):
             for settled in register.lists)
         and len({settled[:4] for settled in register.lists}) == len(register.lists)
         and len({segment[:2] for segment in register.taken}) == len(register.taken)
+        and all(sealed.archive in places and is_name(sealed.terminal) for sealed in register.sealed)
+        and len({sealed.archive for sealed in register.sealed}) == len(register.sealed)
         and (register.mark is None or is_file_name(register.mark)))

@@ -134,11 +134,11 @@ def report(office, kind, key=''):
 
 
 def own_report(office, kind, key=''):
-    """The same as an archive is asked by its store: of its lists it tells those that stand there."""
+    """The same as an archive is asked by its store: of a list it tells what stands there."""
     values = read_key(kind, key) if has_key(kind) else []
     if values and kind in OF_LISTS and ((values[0], values[1]), values[2]) in office.away:
         return None
-    return lookups.own_calls(office) if kind == 'calls' else reported(office, kind, values)
+    return reported(office, kind, values)
 
 
 def reported(office, kind, values):

@@ -29,7 +29,7 @@ COLUMNS = {
 # those of the register beside a store
 REGISTER_COLUMNS = {
     'archive': 'place file visits', 'segment': 'partner archive last', 'closed_for': 'file',
-    'settled': 'vessel voyage side archive lines', 'taken': 'partner archive last'}
+    'settled': 'vessel voyage side archive lines', 'taken': 'partner archive last', 'sealed': 'archive terminal seals'}
 REGISTER = '-archives'
 # what stands after the path of a store in the names of its files
 ENDS = ('', '-wal', REGISTER, REGISTER + '-wal')
@@ -126,7 +126,7 @@ def rows_of_register(register):
     return {
         'archive': sorted(map(tuple, register.archives)), 'segment': sorted(map(tuple, register.segments)),
         'closed_for': [(register.mark,)] if register.mark else [], 'settled': sorted(map(tuple, register.lists)),
-        'taken': sorted(map(tuple, register.taken))}
+        'taken': sorted(map(tuple, register.taken)), 'sealed': sorted(map(tuple, register.sealed))}
 
 
 # ---- what a store holds

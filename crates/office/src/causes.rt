@@ -60,6 +60,18 @@ impl Words {
         text: " is older than its register: put both back from one copy, the newest that has both",
     };
 
+    /// A register is that of a store of another terminal.
+    pub(crate) const OTHER_TERMINAL: Words = Words {
+        follow_path: true,
+        text: " has the register of another terminal's store: put both back from one copy, the newest that has both",
+    };
+
+    /// An archive keeps other texts than were closed into it.
+    pub(crate) const OTHER_SEALS: Words = Words {
+        follow_path: true,
+        text: " keeps something else than was put away in it: put the archive back, and its register",
+    };
+
     /// An archive lies in another folder than its store.
     pub(crate) const OTHER_FOLDER: Words = Words {
         follow_path: true,

@@ -2,7 +2,7 @@ use crate::archive_paths::names;
 use crate::causes::{Audience, Words, tell_store, tell_with, tell_words};
 use crate::history::{tell_closed, tell_open, tell_register};
 use crate::links::followed;
-use crate::long_work::{Work, tell_long};
+use crate::long_work::{Work, WorkWatch, tell_long};
 use crate::new_archive::{CopyFault, forget, prepare};
 use crate::watch::of_number;
 use office_archive_files::{CloseCommandFault, OfFour, UnknownFile, close_whole};
@@ -106,7 +106,10 @@ fn close_files(rt: &HostRuntime, store: &str, archive: &str) -> Result<PutAway, 
         archive: UnknownFile,
         archive_register: UnknownFile,
     };
-    match close_whole(rt, store, archive, unknown) {
+    let watch = WorkWatch::new(rt);
+    let closed = close_whole(rt, &watch, store, archive, unknown);
+    watch.end();
+    match closed {
         Ok(ended) => match without_files(ended) {
             Ok(away) => Ok(away),
             Err(fault) => Err(CloseCommandFault::Close(fault)),
@@ -282,6 +285,7 @@ fn words_of_refusal(why: Refusal) -> Words {
         Refusal::Register => Words::OTHER_REGISTER,
         Refusal::Interchange(_) => Words::OTHER_INTERCHANGE,
         Refusal::Order => Words::OTHER_ORDER,
+        Refusal::Seals => Words::OTHER_SEALS,
         Refusal::Visit(_) => Words::OTHER_VISIT,
     }
 }

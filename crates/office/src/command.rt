@@ -8,7 +8,7 @@ use crate::history::{archives, may_be_made, tell_open, tell_open_cause};
 use crate::init::init;
 use crate::leaving::{end_account, end_serving, give_up};
 use crate::links::followed;
-use crate::long_work::{Watched, Work, tell_long};
+use crate::long_work::{Watched, Work, WorkWatch, tell_long};
 use crate::request_log::RequestLog;
 use crate::watch::DeliveryWatch;
 use office_archive_files::InUnknownFiles;
@@ -270,7 +270,10 @@ pub(crate) fn migrate<W: Write, E: Write>(
         return FAILED;
     }
     tell_long(rt, errors, Work::MIGRATING, old);
-    match migrate_over(rt, (old, Unknown), (new, Unknown), writer) {
+    let watch = WorkWatch::new(rt);
+    let migrated = migrate_over(rt, &watch, (old, Unknown), (new, Unknown), writer);
+    watch.end();
+    match migrated {
         Ok(ended) => match ended.outcome {
             Ok(status) => {
                 give_up(leave_whole(ended.new));

@@ -36,10 +36,10 @@ pub(crate) fn tell_closed<E: Write>(to: Audience<'_>, errors: &mut Port<E>, stor
     status
 }
 
-/// Reports that a store is of a day before its register.
-fn tell_older<E: Write>(to: Audience<'_>, errors: &mut Port<E>, store: &str) -> u8 {
+/// Reports that a store and its register don't belong together, with the reason.
+fn tell_damaged<E: Write>(to: Audience<'_>, errors: &mut Port<E>, store: &str, why: Words) -> u8 {
     let status = tell_fault(errors, &TableFault::Damaged);
-    tell_words(to, errors, store, Words::OLDER);
+    tell_words(to, errors, store, why);
     status
 }
 
@@ -83,6 +83,7 @@ pub(crate) fn tell_open_cause<E: Write>(
         OpenFault::Store(fault) => tell_store_cause(to, errors, store, fault),
         OpenFault::Register(fault) => tell_register_cause(to, errors, store, fault),
         OpenFault::Older => tell_words(to, errors, store, Words::OLDER),
+        OpenFault::Other => tell_words(to, errors, store, Words::OTHER_TERMINAL),
     }
 }
 
@@ -97,7 +98,8 @@ pub(crate) fn tell_open<E: Write>(
         OpenFault::Closed => tell_closed(to, errors, store),
         OpenFault::Store(fault) => tell_store(to, errors, store, fault),
         OpenFault::Register(fault) => tell_register(to, errors, store, fault),
-        OpenFault::Older => tell_older(to, errors, store),
+        OpenFault::Older => tell_damaged(to, errors, store, Words::OLDER),
+        OpenFault::Other => tell_damaged(to, errors, store, Words::OTHER_TERMINAL),
     }
 }
 

@@ -1,14 +1,19 @@
 use crate::causes::stderr_is_terminal;
 use office_commands::tell;
+use office_loading::{Onlooker, Step};
 use office_replies::Port;
+use std::cell::Cell;
 use std::fs;
 use std::io::{IsTerminal, Result, Write};
+
+/// After how many interchanges, visits or lists a person is shown how far work is.
+const STEP: u64 = 1000;
 
 /// A megabyte, as people count it.
 const MEGABYTE: u64 = 1_000_000;
 
-/// Work over a whole store, which takes long where the store is large. No step of it hands control back, so a line comes before
-/// it, for a person, by the size of the store's file.
+/// Work over a whole store, which takes long where the store is large. A line comes before it, for a person, by the size of the
+/// store's file.
 #[derive(Clone, Copy)]
 pub(crate) struct Work {
     name: &'static str,
@@ -59,6 +64,57 @@ pub(crate) fn tell_long<E: Write>(rt: &HostRuntime, errors: &mut Port<E>, work: 
         "{name} {path}, {megabytes} MB: this may take {seconds} s\n"
     ) {
         tell(errors, text.as_str());
+    }
+}
+
+/// Shows a person how far work on a store is: how many interchanges, visits and lists went through its steps.
+#[derive(Drop)]
+pub(crate) struct WorkWatch<'a> {
+    rt: &'a HostRuntime,
+    is_on: bool,
+    copied: Cell<u64>,
+    compared: Cell<u64>,
+    deleted: Cell<u64>,
+}
+
+impl<'a> WorkWatch<'a> {
+    /// Of work that begins.
+    pub(crate) fn new(rt: &'a HostRuntime) -> WorkWatch<'a> {
+        WorkWatch {
+            rt,
+            is_on: stderr_is_terminal(rt),
+            copied: Cell::new(0),
+            compared: Cell::new(0),
+            deleted: Cell::new(0),
+        }
+    }
+
+    /// Ends the line on which it was shown, if it was.
+    pub(crate) fn end(&self) {
+        let most = self.copied.get().max(self.compared.get());
+        if self.is_on && most.max(self.deleted.get()) >= STEP {
+            let _ = eprintln!(self.rt; "");
+        }
+    }
+
+    /// Counts more of something, and shows how many there are, with each thousand more.
+    fn count(&self, of: &Cell<u64>, more: usize, what: &str) {
+        let before = of.get();
+        let now = before.saturating_add(more as u64);
+        of.set(now);
+        if self.is_on && now / STEP > before / STEP {
+            let _ = eprint!(self.rt; "{now} {what}\r");
+        }
+    }
+}
+
+impl Onlooker for WorkWatch<'_> {
+    fn passed(&self, step: Step, count: usize) {
+        match step {
+            Step::Copying => self.count(&self.copied, count, "interchanges copied"),
+            Step::Comparing => self.count(&self.compared, count, "interchanges compared"),
+            Step::Deleting => self.count(&self.deleted, count, "rows and lists deleted"),
+        }
     }
 }
 

@@ -9,7 +9,7 @@ use Rattle.office_rows.specs.Rows.{ListingContent}
 use Rattle.office_history.proofs.Kept.{head_in, tail_in}
 use Rattle.office_parts.specs.{Bringing.is_list, OwnLists.{ListName, list_name}, Archives.Archive}
 use Rattle.office_closing.specs.{Changes.unmarked, Lists.{SettledListContent, comes_before, list_cmp, put_list, put_lists}, Register.RegisterContent}
-use Rattle.office_closing.specs.Sound.{are_rising, are_sound_archives, are_sound_lists, are_sound_segments, are_sound_taken, comes_after, is_sound_mark, may_be_list}
+use Rattle.office_closing.specs.Sound.{are_rising, are_sound_archives, are_sound_lists, are_sound_segments, are_sound_sealed, are_sound_taken, comes_after, is_sound_mark, may_be_list}
 use Rattle.office_closing.specs.{Closes.{Closing, Held, IsClosing, closed_after, raised_register}, Copies.FileNames, Deleting.is_one_of}
 use Rattle.office_closing.specs.PuttingAway.{AreNamedThen, HasLists}
 use Rattle.office_archives.specs.Shelves.{IsKeptAs}
@@ -208,7 +208,7 @@ module _ (archives : List Archive) (held : Held) (names : FileNames) (closing : 
       let raised : RegisterContent = raised_register held closing in
       let most : ℕ = length raised.archives in
       let lists : Bool = are_sound_lists most raised.lists in
-      let last : Bool = are_sound_taken most raised.taken && is_sound_mark raised.closed_for in
+      let last : Bool = are_sound_taken most raised.taken && (are_sound_sealed most raised.sealed && is_sound_mark raised.closed_for) in
       let all = and_parts (are_sound_archives raised.archives) (are_sound_segments most raised.segments && (lists && last)) is.sound.tested in
       let rest = and_parts (are_sound_segments most raised.segments) (lists && last) all.1 in
       let sound = (and_parts lists last rest.1).0 in

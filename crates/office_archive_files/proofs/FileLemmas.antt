@@ -10,7 +10,7 @@ use Rattle.office_history.specs.After.{AreKeptOnce}
 use Rattle.office_tables.specs.Opened.{AreMissing}
 use Rattle.office_parts.specs.Archives.{Archive}
 use Rattle.office_closing.specs.{Register.RegisterContent, Stored.{HasRegister, HasRegisterIn}, Transactions.IsSettled, Closes.Held}
-use Rattle.office_closing.specs.{Tables.{Layout, older, former, whole, register_tables, schema_in}, Files.{AreClean, Files, files}}
+use Rattle.office_closing.specs.{Tables.{Layout, older, former, unsealed, whole, register_tables, schema_in}, Files.{AreClean, Files, files}}
 use Rattle.office_closing.specs.{declared.faults.CloseFault.CloseFault, declared.planning.PutAway.PutAway}
 use Rattle.office_commands.specs.Opening.{Shows}
 use Rattle.office_archive_files.specs.ClosedFiles.{AreLeft, ClosingsOfFilesAreNoEvents, HoldClosable, HoldsRegister, HoldsRows, OpenStoresAreHeld}
@@ -25,6 +25,7 @@ pub never_missing : (layout : Layout) → AreMissing register_tables (schema_in 
 unfolding same_name
 never_missing older missing = let none : true ≡ false = missing.0 in absurd cc
 never_missing former missing = let none : true ≡ false = missing.0 in absurd cc
+never_missing unsealed missing = let none : true ≡ false = missing.0 in absurd cc
 never_missing whole missing = let none : true ≡ false = missing.0 in absurd cc
 
 module _ {S : Type 0} (g : Ghosts S) (image : Image) (conn : connection.Held S) (clean : HasCleanDisk (state g conn)) where

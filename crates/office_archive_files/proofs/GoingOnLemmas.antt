@@ -6,7 +6,7 @@ use Rattle.edi_messages.specs.Texts.{is_name}
 use Rattle.office_parts.specs.{Bringing.is_list, OwnLists.ListName, Archives.Archive}
 use Rattle.office_closing.specs.{Changes.unmarked, Lists.{SettledListContent, comes_before, put_list, put_lists}, Copies.FileNames, Deleting.is_one_of}
 use Rattle.office_closing.specs.{Register.{ArchiveContent, RegisterContent, last_closed}, Closes.{Closing, Held, IsClosing, raised_register}}
-use Rattle.office_closing.specs.Sound.{IsSound, are_rising, are_sound_archives, are_sound_lists, are_sound_segments, are_sound_taken, is_sound_mark, may_be_list}
+use Rattle.office_closing.specs.Sound.{IsSound, are_rising, are_sound_archives, are_sound_lists, are_sound_segments, are_sound_sealed, are_sound_taken, is_sound_mark, may_be_list}
 use Rattle.office_closing.specs.PuttingAway.{AreNamedThen, HasLists}
 use Rattle.office_archive_files.{specs.ClosedStores.ClosingsGoOn, proofs.AddedLemmas.{all_has, name_of}}
 
@@ -111,7 +111,7 @@ module _ (archives after : List Archive) (held again : Held) (names : FileNames)
   low =
       let most : ℕ = length held.copied.archives in
       let lists : Bool = are_sound_lists most held.copied.lists in
-      let last : Bool = are_sound_taken most held.copied.taken && is_sound_mark held.copied.closed_for in
+      let last : Bool = are_sound_taken most held.copied.taken && (are_sound_sealed most held.copied.sealed && is_sound_mark held.copied.closed_for) in
       let all = and_parts (are_sound_archives held.copied.archives) (are_sound_segments most held.copied.segments && (lists && last)) sound.tested in
       let rest = and_parts (are_sound_segments most held.copied.segments) (lists && last) all.1 in
       (and_parts (list_all (may_be_list most) held.copied.lists) (are_rising None held.copied.lists) (and_parts lists last rest.1).0).0

@@ -1,6 +1,6 @@
 -- Which stores open after some events, as a closing asks.
 use Rattle.std.{specs.{Prelude.Contains, Option.option_map}, proofs.lemmas.Bool.leb-true}
-use Rattle.std.proofs.Common.{◌≡◌, inl, ◌≤◌, List, [], ◌∷◌, Bool, true, false, cond, filter, not, refl, sym, ap, subst, ◌∙◌, arith}
+use Rattle.std.proofs.Common.{◌≡◌, ◌≤◌, List, [], ◌∷◌, Bool, true, false, cond, filter, not, refl, sym, ap, subst, ◌∙◌, arith}
 use Rattle.sqlite.specs.Tree.{Trees}
 use Rattle.sqlite_rules.proofs.ListLemmas.{contains_had, has_contained, has_filtered}
 use Rattle.office_replies.specs.Events.{Event}
@@ -11,7 +11,7 @@ use Rattle.office_parts.specs.{Away.lists_after, Naming.AreHere, OwnLists.{ListN
 use Rattle.office_parts.{specs.{LeftOver.rows_beyond, Parts.nothing_archived}, proofs.Takings.rows_are_parts}
 use Rattle.office_desk.proofs.DeliverLemmas.{own_once}
 use Rattle.office_closing.specs.{Changes.empty_register, Register.closed_by}
-use Rattle.office_archive_files.specs.ClosedStores.{LoadedStoresOpen, OpensAfter, UnclosedStoresOpen}
+use Rattle.office_archive_files.{specs.ClosedStores.{LoadedStoresOpen, OpensAfter, UnclosedStoresOpen}, proofs.ShelfLemmas.none_named}
 
 -- ---- nothing was put away
 
@@ -58,7 +58,7 @@ module _ (content : SetupContent) (es : List Event) (rows : Rows) (db : Trees) (
       let parts = rows_are_parts content es rows after in
       record {
         sound = record { tested = refl; texts = record { files = tt; lines = tt; closed_for = tt } };
-        named = record { counted = refl; named = λ partner number from. refl; lists = λ call side. tt; of_calls = λ name. inl refl };
+        named = none_named;
         beside = record {
           archived = nothing_archived;
           own = rows;

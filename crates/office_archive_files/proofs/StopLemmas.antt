@@ -37,7 +37,7 @@ none_gone closing rows = record {
 stores_either : (register : RegisterContent) (db : Database) → HasRegister register db → StoresEither register db.trees
 stores_either register db has = (
   has.0,
-  record { schema = refl; listed = has.1.listed; archives = has.1.archives; segments = has.1.segments; closed_for = has.1.closed_for; lists = has.1.lists; taken = has.1.taken },
+  record { schema = refl; listed = has.1.listed; archives = has.1.archives; segments = has.1.segments; closed_for = has.1.closed_for; lists = has.1.lists; taken = has.1.taken; sealed = has.1.sealed },
 )
 
 -- ---- a stop

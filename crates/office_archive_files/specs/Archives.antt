@@ -1,5 +1,5 @@
 -- Which archive is that of a place of a store.
-use Rattle.std.specs.{Prelude.{◌≡◌, ℕ, ◌+◌, ◌-◌, ◌==◌, nat_lt, List, filter, length, Some, slice_get, true, IsTrue}, List.list_all, Option.unwrap_or}
+use Rattle.std.specs.{Prelude.{◌≡◌, ◌↔◌, ℕ, ◌+◌, ◌-◌, ◌==◌, Bool, nat_lt, List, filter, length, Some, slice_get, true, IsTrue}, List.list_all, Option.unwrap_or}
 use Rattle.sqlite.specs.{Held.{Held, state}, Recovery.Image, State.HasCleanDisk, declared.error.Error.Error}
 use Rattle.sqlite_trees.specs.declared.store.Store.{Ghosts}
 use Rattle.terminal_core.specs.State.{TerminalState, last_number}
@@ -8,7 +8,8 @@ use Rattle.office_loading.specs.{Closed.ClosedContent, Tables.LoadsOwn}
 use Rattle.office_admission.specs.Setups.{SetupContent}
 use Rattle.office_commands.specs.{Opening.Shows, Paths.IsNameOf}
 use Rattle.office_closing.specs.{Copies.AreFirst, Lists.SettledListContent, Register.{ArchiveContent, RegisterContent, closed_by, is_passed}, Sound.is_sound}
-use Rattle.office_closing.specs.declared.register.Segment.{Segment}
+use Rattle.office_closing.specs.{Seals.HasSeals, declared.register.Segment.Segment}
+use Rattle.office_history.specs.After.{AreKeptOnce}
 use Rattle.office_tables.specs.{declared.table_fault.TableFault.TableFault, declared.table_fault.TableFault.TheVariants.{Memory, Store}}
 
 -- An archive's own register is that of the archive at a place of the store whose register names the archives: it is marked for
@@ -78,6 +79,17 @@ pub record PassesAt {S : Type 0} (g : Ghosts S) (image : Image) (path : List ℕ
       LoadsOwn read.closed (state g conn).committed read.content read.terminal
   pub are_nexts : HasCleanDisk (state g conn) → (rows : Rows) → HasRows rows (state g conn).committed →
       AreNexts rows read.nexts
+
+-- A connection has passed so; and then its rows were looked through: this is whether it keeps all that the store's register has
+-- sealed with it, as far as its disk has returned what was written, and while it is open.
+pub record IsSealedAt {S : Type 0} (g : Ghosts S) (image : Image) (path : List ℕ) (store : SetupContent)
+    (names : RegisterContent) (place : ℕ) (is_sealed : Bool) : Type 0 where
+  pub found : Held S
+  pub last : Held S
+  pub passes : PassesAt g image path store names place found
+  pub sealed : HasCleanDisk (state g last) → IsTrue (state g last).is_open → (rows : Rows) →
+      HasRows rows (state g found).committed → AreKeptOnce rows.interchanges →
+      (is_sealed ≡ true) ↔ HasSeals names place rows
 
 -- a fault with this error says that the archive of a place is not there, or not its own; out of memory says nothing of it
 abbrev pub SaysNoArchive : (no_archive : Error) → TableFault → Type 0

@@ -12,6 +12,7 @@ use office_closing::{
 use office_commands::{
     beside_path, found_at, has_no_tables, is_there, open_found, open_there, place_of, register_path,
 };
+use office_loading::Onlooker;
 use office_tables::TableFault;
 use sqlite::{Alter, Connection, FileFrom, FileStore, Start, Unknown};
 use std::alloc::{AllocError, Global};
@@ -133,7 +134,7 @@ pub type ClosingFiles<S, R, A, M> = OfFour<
 
 /// Puts away what the archive at a path, a copy of the store's files in the store's folder, keeps as the store at a path
 /// does. The store is opened first. A register that isn't there is made: the store's, and the archive's if the store's names no
-/// archive. The files are given back as they were left, if all were opened.
+/// archive. Somebody looks on. The files are given back as they were left, if all were opened.
 pub fn close_over<
     S: Alter + Drop,
     R: Alter + Drop,
@@ -143,8 +144,10 @@ pub fn close_over<
     OfRegister: ClosingFile<R> + Drop,
     OfArchive: ClosingFile<A> + Drop,
     OfArchiveRegister: ClosingFile<M> + Drop,
+    O: Onlooker,
 >(
     rt: &HostRuntime,
+    onlooker: &O,
     store: &str,
     archive: &str,
     of: OfFour<OfStore, OfRegister, OfArchive, OfArchiveRegister>,
@@ -160,7 +163,7 @@ pub fn close_over<
 {
     check_folder(is_beside(rt, store, archive))?;
     let files = open_files(rt, store, archive, of)?;
-    Ok(close_files(rt.alloc(), store, archive, files))
+    Ok(close_files(rt.alloc(), onlooker, store, archive, files))
 }
 
 /// Opens the four files of a closing, the store first. No clause says what they hold after a fault, since no connection is left:
@@ -207,8 +210,9 @@ fn open_files<
 }
 
 /// Closes the store in four files that are open, under the names of the two paths, and gives them back.
-fn close_files<S: Alter + Drop, R: Alter + Drop, A: Alter + Drop, M: Alter + Drop>(
+fn close_files<S: Alter + Drop, R: Alter + Drop, A: Alter + Drop, M: Alter + Drop, O: Onlooker>(
     alloc: Global,
+    onlooker: &O,
     store: &str,
     archive: &str,
     opened: ClosingFiles<S, R, A, M>,
@@ -228,6 +232,7 @@ fn close_files<S: Alter + Drop, R: Alter + Drop, A: Alter + Drop, M: Alter + Dro
     } = opened;
     let closed = close(
         alloc,
+        onlooker,
         &mut own,
         &mut names,
         &mut copy,
@@ -245,8 +250,9 @@ fn close_files<S: Alter + Drop, R: Alter + Drop, A: Alter + Drop, M: Alter + Dro
 }
 
 /// Closes as `close_over` does, four files of one kind: a program that names one kind of files says it once.
-pub fn close_alike<S: Alter + Drop, F: ClosingFile<S> + Drop>(
+pub fn close_alike<S: Alter + Drop, F: ClosingFile<S> + Drop, O: Onlooker>(
     rt: &HostRuntime,
+    onlooker: &O,
     store: &str,
     archive: &str,
     of: OfFour<F, F, F, F>,
@@ -255,7 +261,7 @@ pub fn close_alike<S: Alter + Drop, F: ClosingFile<S> + Drop>(
         (record { store = F.image; register = F.image; archive = F.image; archive_register = F.image })
         store.now archive.now ended.0.store ended.0.register ended.0.archive ended.0.archive_register ended.1) }
 {
-    close_over(rt, store, archive, of)
+    close_over(rt, onlooker, store, archive, of)
 }
 
 /// Refuses an archive that lies in another folder than its store, or of which that could not be found out.

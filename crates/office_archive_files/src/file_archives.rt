@@ -1,12 +1,14 @@
 ghost use Rattle.std.specs.Prelude.{◌≡◌, IfOk, List, None, Some};
 ghost use Rattle.office_archive_files.specs.Shelves.{HoldArchiveAt};
-ghost use Rattle.office_archives.specs.Shelves.{IsOpenAt};
+ghost use Rattle.office_archives.specs.Shelves.{IsOpenAt, NamesAll};
+ghost use Rattle.office_closing.specs.Register.{register_content};
 ghost use Rattle.office_parts.specs.Archives.{Archive};
-ghost use Rattle.sqlite.specs.{Files.over_files, WalFiles.image_at};
+ghost use Rattle.office_tables.specs.DeliveryReading.{OnlyReads};
+ghost use Rattle.sqlite.specs.{Files.{file_state, over_files}, WalFiles.image_at};
 
-use crate::shelf::{ArchiveStart, FileShelf, NO_ARCHIVE};
+use crate::shelf::{ArchiveStart, FileShelf};
 use edi_messages::Call;
-use office_archives::{Archives, Looked, ManyArchives, Shelf};
+use office_archives::{Archives, Looked, ManyArchives, NO_ARCHIVE, Shelf};
 use office_closing::Register;
 use office_reports::Query;
 use office_tables::{Kept, TableFault};
@@ -49,6 +51,21 @@ impl<'a, B: ArchiveStart> StoreShelf<'a, B> {
             None => Err(TableFault::Store(NO_ARCHIVE)),
         }
     }
+
+    /// Whether an archive that was opened for a place is its own; none is that of an empty shelf.
+    fn is_own(
+        &self,
+        archive: &mut Looked<FileStore<FileFrom<B>>>,
+        names: &Register,
+        place: u16,
+    ) -> Result<bool, TableFault>
+        ensures reads { OnlyReads (file_state archive.old.conn) (file_state archive.new.conn) result }
+    {
+        match &self.shelf {
+            Some(shelf) => shelf.is_own(archive, names, place),
+            None => Err(TableFault::Store(NO_ARCHIVE)),
+        }
+    }
 }
 
 impl<B: ArchiveStart> Shelf<FileStore<FileFrom<B>>> for StoreShelf<'_, B> {
@@ -62,6 +79,15 @@ impl<B: ArchiveStart> Shelf<FileStore<FileFrom<B>>> for StoreShelf<'_, B> {
         place: u16,
     ) -> Result<Looked<FileStore<FileFrom<B>>>, TableFault> {
         self.own_archive(names, place)
+    }
+
+    fn passes(
+        &self,
+        archive: &mut Looked<FileStore<FileFrom<B>>>,
+        names: &Register,
+        place: u16,
+    ) -> Result<bool, TableFault> {
+        self.is_own(archive, names, place)
     }
 }
 
@@ -92,6 +118,15 @@ impl Shelf<FileStore<FileFrom<Unknown>>> for UnknownShelf<'_> {
     ) -> Result<Looked<FileStore<FileFrom<Unknown>>>, TableFault> {
         self.shelf.own_archive(names, place)
     }
+
+    fn passes(
+        &self,
+        archive: &mut Looked<FileStore<FileFrom<Unknown>>>,
+        names: &Register,
+        place: u16,
+    ) -> Result<bool, TableFault> {
+        self.shelf.is_own(archive, names, place)
+    }
 }
 
 /// The archives of a store in files of which nothing is supposed, as the program names them: `ManyArchives` of such files, in
@@ -102,13 +137,15 @@ pub struct FileArchives<'a> {
 }
 
 impl<'a> FileArchives<'a> {
-    /// Those of a shelf, as a register names them.
-    pub fn new(
-        archives: ManyArchives<FileStore<FileFrom<Unknown>>, UnknownShelf<'a>>,
-    ) -> FileArchives<'a>
-        ensures { result.archives ≡ archives.entry }
+    /// Those of a shelf, as a register names them, none of them open.
+    pub fn new(alloc: Global, shelf: UnknownShelf<'a>, register: Register) -> FileArchives<'a>
+        ensures { (list : List Archive) → HoldArchiveAt (image_at ⟦<Unknown as Start>⟧) 1 list →
+            NamesAll (register_content register) list →
+            ⟦<ManyArchives<FileStore<FileFrom<Unknown>>, UnknownShelf<'a>> as Archives>⟧.are list result.archives }
     {
-        FileArchives { archives }
+        FileArchives {
+            archives: ManyArchives::new(alloc, shelf, register),
+        }
     }
 }
 
@@ -146,8 +183,8 @@ impl<'a> Archives for FileArchives<'a> {
         self.archives.place_of(partner, number)
     }
 
-    fn has_lists(&self) -> bool {
-        self.archives.has_lists()
+    fn has_lists(&self, count: usize) -> bool {
+        self.archives.has_lists(count)
     }
 
     fn lines(

@@ -56,11 +56,19 @@ impl<'a, B: ArchiveStart> ArchivesBeside<ManyArchives<FileStore<FileFrom<B>>, St
         setup: Setup,
         register: Register,
     ) -> ManyArchives<FileStore<FileFrom<B>>, StoreShelf<'a, B>> {
-        ManyArchives::new(StoreShelf::of(self.shelf(store, setup)), register)
+        ManyArchives::new(
+            self.rt.alloc(),
+            StoreShelf::of(self.shelf(store, setup)),
+            register,
+        )
     }
 
     fn none(&self) -> ManyArchives<FileStore<FileFrom<B>>, StoreShelf<'a, B>> {
-        ManyArchives::new(StoreShelf::empty(), no_archives(self.rt.alloc()))
+        ManyArchives::new(
+            self.rt.alloc(),
+            StoreShelf::empty(),
+            no_archives(self.rt.alloc()),
+        )
     }
 }
 
@@ -102,11 +110,15 @@ impl<'a> ArchivesBeside<FileArchives<'a>> for InUnknownFiles<'a> {
 
     fn archives(&self, store: String, setup: Setup, register: Register) -> FileArchives<'a> {
         let shelf = UnknownShelf::new(StoreShelf::of(self.files.shelf(store, setup)));
-        FileArchives::new(ManyArchives::new(shelf, register))
+        FileArchives::new(self.files.rt.alloc(), shelf, register)
     }
 
     fn none(&self) -> FileArchives<'a> {
         let shelf = UnknownShelf::new(StoreShelf::empty());
-        FileArchives::new(ManyArchives::new(shelf, no_archives(self.files.rt.alloc())))
+        FileArchives::new(
+            self.files.rt.alloc(),
+            shelf,
+            no_archives(self.files.rt.alloc()),
+        )
     }
 }

@@ -16,5 +16,5 @@ pub use closing::{
 };
 pub use file_archives::{FileArchives, StoreShelf, UnknownShelf};
 pub use in_files::{InFiles, InUnknownFiles};
-pub use shelf::{ArchiveStart, FileShelf, Finds, Found, NO_ARCHIVE};
+pub use shelf::{ArchiveStart, FileShelf, Finds, Found};
 pub use whole::{LeftFiles, close_whole};

@@ -1,27 +1,24 @@
-ghost use Rattle.std.specs.Prelude.{◌≡◌, ◌≢◌, ◌↔◌, ℕ, IfErr, IfOk, List, string_bytes};
-ghost use Rattle.office_archive_files.specs.{Archives.{IsNamedAt, PassesAt, SaysNoArchive, going_on, segments_at}, declared.shelf.Found.{Found, TheVariants.Other}};
-ghost use Rattle.office_archive_files.specs.Shelves.{HoldArchiveAt};
+ghost use Rattle.std.specs.{Prelude.{◌≡◌, ◌≢◌, ◌↔◌, ◌==◌, ℕ, true, IfErr, IfOk, List, string_bytes}, List.list_any};
+ghost use Rattle.office_archive_files.specs.{Archives.{IsNamedAt, IsSealedAt, PassesAt, SaysNoArchive, going_on, segments_at}, Shelves.HoldArchiveAt};
+ghost use Rattle.office_archive_files.specs.{declared.shelf.Found.Found, declared.shelf.Found.TheVariants.Other};
+ghost use Rattle.office_commands.specs.Opening.{Shows};
 ghost use Rattle.office_archives.specs.Shelves.{IsOpenAt};
 ghost use Rattle.office_loading.specs.Closed.{closed_content};
 ghost use Rattle.office_parts.specs.Archives.{Archive};
 ghost use Rattle.office_closing.specs.Register.{RegisterContent, register_content};
 ghost use Rattle.office_admission.specs.Setups.{setup_content};
-ghost use Rattle.office_tables.specs.declared.table_fault.TableFault.TheVariants.{Memory};
-ghost use Rattle.sqlite.specs.{Files.over_files, WalFiles.image_at};
+ghost use Rattle.office_tables.specs.{DeliveryReading.OnlyReads, declared.table_fault.TableFault.TheVariants.Memory};
+ghost use Rattle.sqlite.specs.{Files.{file_state, over_files}, WalFiles.image_at};
 
 use crate::is_archive::{archive_at, is_register_of, is_same_office, reaches};
 use office_admission::Setup;
-use office_archives::{Looked, Shelf};
-use office_closing::{Register, Segment};
+use office_archives::{Looked, NO_ARCHIVE, Shelf};
+use office_closing::{Register, SealedArchive, Segment};
 use office_commands::{beside_path, found_at, look_there, place_of, read_history};
 use office_loading::Closed;
 use office_tables::TableFault;
-use sqlite::{Error, ErrorCode, FileFrom, FileStore, Start, Unknown};
+use sqlite::{FileFrom, FileStore, Start, Unknown};
 use std::alloc::{AllocError, Global};
-
-/// An archive that is missing, can't be read, or is not the store's own archive of its place. No statement of the office
-/// has this error: it is about names of tables.
-pub const NO_ARCHIVE: Error = Error::SqliteFailure(ErrorCode::BadName);
 
 /// What is found under the name of an archive.
 #[derive(Clone, Copy, Debug, PartialEq, Eq)]
@@ -110,10 +107,40 @@ impl<'a, B: ArchiveStart> FileShelf<'a, B> {
             HoldArchiveAt (image_at B.Start) B.place list → IsOpenAt over_files list place archive.conn) }
         ensures fault { IfErr result (SaysNoArchive NO_ARCHIVE) }
     {
-        match self.opened(names, place) {
+        match self.shown_or_opened(names, place) {
             Ok(archive) => Ok(archive),
             Err(fault) => Err(as_no_archive(fault)),
         }
+    }
+
+    /// The archive at a place, to be only read: of one with seals only the registers are looked at. Another fault than Memory says
+    /// that it is not there, or not its own.
+    fn shown_or_opened(
+        &self,
+        names: &Register,
+        place: u16,
+    ) -> Result<Looked<FileStore<FileFrom<B>>>, TableFault>
+        ensures { IfOk result (λ archive. (list : List Archive) → HoldArchiveAt (image_at B.Start) place list →
+            IsOpenAt over_files list place archive.conn) }
+    {
+        if are_seals_of(&names.sealed, place) {
+            return self.shown(names, place);
+        }
+        self.opened(names, place)
+    }
+
+    /// The file that the registers name as the archive of a place, to be only read.
+    fn shown(
+        &self,
+        names: &Register,
+        place: u16,
+    ) -> Result<Looked<FileStore<FileFrom<B>>>, TableFault>
+        ensures opened { IfOk result (λ archive. (list : List Archive) → HoldArchiveAt (image_at B.Start) place list →
+            IsOpenAt over_files list place archive.conn) }
+        ensures shows { IfOk result (λ archive. Shows over_files (image_at B.Start) archive.conn) }
+    {
+        let named = self.named(names, place)?;
+        look_there(self.rt, named.path.as_str(), self.start.another())
     }
 
     /// The archive at a place, to be only read. Another fault than Memory says that it is not there, or not its own.
@@ -127,14 +154,43 @@ impl<'a, B: ArchiveStart> FileShelf<'a, B> {
         ensures passes { IfOk result (λ archive. PassesAt over_files (image_at B.Start) (string_bytes self.now.store)
             (setup_content self.now.setup) (register_content names.now) place archive.conn) }
     {
-        let named = self.named(names, place)?;
-        let mut archive = look_there(self.rt, named.path.as_str(), self.start.another())?;
-        let (setup, beside) = archive.load(self.rt.alloc(), &named.closed)?;
-        if is_same_office(&setup, &self.setup) && reaches(&beside, &named.segments, named.visits) {
+        let mut archive = self.shown(names, place)?;
+        let is_own = self.is_own(&mut archive, names, place)?;
+        if is_own {
             Ok(archive)
         } else {
             Err(TableFault::Store(NO_ARCHIVE))
         }
+    }
+
+    /// Whether the archive at a place, as `opened` gives it, has all its seals.
+    fn is_sealed(&self, names: &Register, place: u16) -> Result<bool, TableFault>
+        ensures { IfOk result (IsSealedAt ⟦<FileStore<FileFrom<B>> as sqlite_trees::store::Store>⟧ (image_at B.Start)
+            (string_bytes self.now.store) (setup_content self.now.setup) (register_content names.now) place) }
+    {
+        let mut archive = self.opened(names, place)?;
+        archive.has_seals(self.rt.alloc(), names, place)
+    }
+
+    /// Whether an archive that was opened for a place is of the store's office, and keeps what its own register and the store's
+    /// say.
+    pub(crate) fn is_own(
+        &self,
+        archive: &mut Looked<FileStore<FileFrom<B>>>,
+        names: &Register,
+        place: u16,
+    ) -> Result<bool, TableFault>
+        ensures passes { Shows over_files (image_at B.Start) archive.old.conn → IfOk result (λ is_own. is_own ≡ true →
+            PassesAt over_files (image_at B.Start) (string_bytes self.now.store) (setup_content self.now.setup)
+            (register_content names.now) place archive.new.conn) }
+        ensures reads { OnlyReads (file_state archive.old.conn) (file_state archive.new.conn) result }
+    {
+        let named = self.named(names, place)?;
+        let (setup, beside) = archive.load(self.rt.alloc(), &named.closed)?;
+        if !is_same_office(&setup, &self.setup) {
+            return Ok(false);
+        }
+        Ok(reaches(&beside, &named.segments, named.visits))
     }
 
     /// The archive at a place as the store's register and its own say, if its own is that of this place.
@@ -228,12 +284,16 @@ impl<B: ArchiveStart> Finds for FileShelf<'_, B> {
         if let Ok(None) = found_at(self.rt, path.as_str()) {
             return Ok(Found::Nothing);
         }
-        let fault = match self.opened(names, place) {
-            Ok(_) => return Ok(Found::Archive),
-            Err(fault) => fault,
-        };
-        let found = as_other(&fault)?;
-        Ok(found)
+        match self.is_sealed(names, place) {
+            Ok(is_sealed) => {
+                if is_sealed {
+                    Ok(Found::Archive)
+                } else {
+                    Ok(Found::Other)
+                }
+            }
+            Err(fault) => as_other(&fault),
+        }
     }
 }
 
@@ -253,4 +313,20 @@ impl<B: ArchiveStart> Shelf<FileStore<FileFrom<B>>> for FileShelf<'_, B> {
     ) -> Result<Looked<FileStore<FileFrom<B>>>, TableFault> {
         self.own_archive(names, place)
     }
+
+    fn passes(
+        &self,
+        archive: &mut Looked<FileStore<FileFrom<B>>>,
+        names: &Register,
+        place: u16,
+    ) -> Result<bool, TableFault> {
+        self.is_own(archive, names, place)
+    }
+}
+
+/// Whether a register has seals of the archive at a place.
+fn are_seals_of(sealed: &[SealedArchive], place: u16) -> bool
+    ensures { result ≡ list_any (λ one. one.archive == place) sealed.now }
+{
+    sealed.iter().any(|one| one.archive == place)
 }

@@ -5,6 +5,7 @@ ghost use Rattle.office_commands.specs.Whole.{IsLeft};
 use crate::closing::{CloseCommandFault, ClosingFile, ClosingFiles, OfFour, close_alike};
 use office_closing::{CloseFault, PutAway};
 use office_commands::{Left, leave_whole};
+use office_loading::Onlooker;
 use sqlite::FileStore;
 use sqlite_disk::Disk;
 
@@ -15,8 +16,9 @@ pub type LeftFiles<D> = OfFour<Left<D>, Left<D>, Left<D>, Left<D>>;
 type AlikeFiles<D> = ClosingFiles<FileStore<D>, FileStore<D>, FileStore<D>, FileStore<D>>;
 
 /// Closes as `close_alike` does, and leaves each of the four files whole, as `leave_whole` does, whatever the closing answers.
-pub fn close_whole<D: Disk + Drop, F: ClosingFile<FileStore<D>> + Drop>(
+pub fn close_whole<D: Disk + Drop, F: ClosingFile<FileStore<D>> + Drop, O: Onlooker>(
     rt: &HostRuntime,
+    onlooker: &O,
     store: &str,
     archive: &str,
     of: OfFour<F, F, F, F>,
@@ -25,7 +27,7 @@ pub fn close_whole<D: Disk + Drop, F: ClosingFile<FileStore<D>> + Drop>(
         (record { store = F.image; register = F.image; archive = F.image; archive_register = F.image })
         store.now archive.now ended.0.store ended.0.register ended.0.archive ended.0.archive_register ended.1) }
 {
-    match close_alike(rt, store, archive, of) {
+    match close_alike(rt, onlooker, store, archive, of) {
         Ok((files, closed)) => Ok((leave_closed(files), closed)),
         Err(fault) => Err(fault),
     }

@@ -15,7 +15,7 @@ use Rattle.office_reports.specs.{Looking.{Look, of_archive, report, texts_after}
 use Rattle.office_loading.specs.Closed.{last_closed}
 use Rattle.office_history.specs.After.{machine_after}
 use Rattle.office_rows.specs.Rows.{Rows}
-use Rattle.office_archives.{specs.{Standing.{IsBeyond, NamesNoneAway, StandsBeside}, Telling.{IsOfNumber, TellsTogether}}, proofs.Together.looks_on}
+use Rattle.office_archives.{specs.{Standing.{IsBeyond, NamesNoneAway, StandsBeside}, Telling.{IsOfNumber, SaysIfAway, TellsTogether}}, proofs.Together.looks_on}
 use Rattle.office_archives.{specs.Together.{LeadsTogether, LooksTogether, ShowsBeside, TellsBeside}, proofs.Standing.{beyond_answered, beyond_left}}
 use Rattle.office_archives.proofs.Beside.{calls_beside, container_beside, list_beside, neither_beside, nobody_beside, number_beside, tells_so}
 use Rattle.office_reports.specs.declared.query.Query.TheVariants as query
@@ -87,6 +87,9 @@ zero_or_above n = by (nat_le 1 n && nat_le n 0) refl
         absurd (omega (arith, low, high))
     by false e = refl
 
+none_put_away : (list : List Archive) → list ≡ [] → SaysIfAway list false
+none_put_away list none = record { none = λ e name. ap (λ l. lines_away l name) none; some = λ e. let never : false ≡ true = e in absurd cc }
+
 module _ {S A : Type 0} (g : Ghosts S) (are : List Archive → A → Type 0) (old : Desk S g) (a : A) (empty : (list : List Archive) → are list a → list ≡ []) where
   -- what a number's partner has, whoever that is
   number_alone : (asked : Query) (code : List ℕ) (n : ℕ) (found : Option (List ℕ)) → IsOfNumber asked code n → ((rows : Rows) (terminal : TerminalState) → TellsOf (setup_content old.setup) terminal rows asked found → partner_called (setup_content old.setup) code ≡ None → found ≡ None)
@@ -113,7 +116,7 @@ module _ {S A : Type 0} (g : Ghosts S) (are : List Archive → A → Type 0) (ol
   alone_tells (query.Visits container) found sound told = container_beside g are old a (query.Visits container) found found 0 tt (λ list these. sym (ap length (empty list these))) told refl
   alone_tells (query.Container container) found sound told = container_beside g are old a (query.Container container) found found 0 tt (λ list these. sym (ap length (empty list these))) told refl
   alone_tells query.Calls found sound told =
-      calls_beside g are old a found found false 0 (λ e list these name. ap (λ l. lines_away l name) (empty list these)) (λ e list these. let never : false ≡ true = e in absurd cc) (λ list these. refl) told refl
+      calls_beside g are old a found found 0 (λ list these. (false, none_put_away list (empty list these), refl)) told refl
   alone_tells (query.List call side) found sound told =
       list_beside g are old a old (query.List call side) (call_content call) side found (refl, refl) sound (looks_nowhere g old)
       (λ list content es these stands. away_none list stands.away content es stands.own (empty list these) stands.lists (list_name (call_content call) side)) told

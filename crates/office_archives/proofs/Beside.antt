@@ -1,7 +1,5 @@
 -- What desk and archives tell, from whatever events after which they stand.
-use Rattle.std.specs.Prelude.{Contains, IsPermutation, filter, ◌&&◌, is_some, nat_le, String}
-use Rattle.std.specs.Ordering.{eq_by_cmp}
-use Rattle.std.specs.declared.alloc.Global.{Global}
+use Rattle.std.specs.{Prelude.{Contains, IsPermutation, filter, ◌&&◌, is_some, nat_le, String}, Ordering.eq_by_cmp, declared.alloc.Global.Global}
 use Rattle.std.proofs.Common.{◌≡◌, ℕ, List, [], ◌∷◌, ◌++◌, Bool, true, false, cond, Option, Some, map, refl, sym, ap, subst, ◌∙◌, ◌<◌, ◌≤◌, length, None, Result, Ok, Err, arith}
 use Rattle.std.proofs.{lemmas.List.Elements.Contains-append_right, lemmas.List.Sorted.IsPermutation-sym, lemmas.Bool.{leb-false, leb-true, and_parts}}
 use Rattle.box6346.specs.declared.box_number.BoxNumber.{BoxNumber}
@@ -18,17 +16,13 @@ use Rattle.office_parts.specs.{Archives.{Archive, archive_of}, Parts.{Archived, 
 use Rattle.office_parts.{specs.{OwnLists.{ListName, list_name, list_of, rows_without_lists, without_lists}, OwnTerminal.own_terminal}, proofs.Takings.own_rows}
 use Rattle.office_parts.proofs.KeepingLemmas.{away_done}
 use Rattle.office_archives.specs.{ListsAway.{AreLinesIfAway, TellsByLines, FindsIfAway}, Keeping.IsClosedIn, Together.{StandTogether, TellsBeside}}
-use Rattle.office_archives.specs.Telling.{IsOfList, TellsTogether, HasListAway, IsOfContainer, IsOfNeither, IsOfNumber, TellsClosed, archives_with_lists, with_archives}
+use Rattle.office_archives.specs.Telling.{IsOfList, SaysIfAway, TellsTogether, IsOfContainer, IsOfNeither, IsOfNumber, TellsClosed, archives_with_lists, with_archives}
 use Rattle.office_archives.proofs.{Brought.kept_so, Standing.{closed_here, closed_told}}
 use Rattle.office_archives.proofs.Filled.{Entry, first_in, listed_alike, filled_container, filled_list, filled_neither, filled_number, filled_visits}
 use Rattle.office_archives.proofs.Told.{container_told, list_told, nobody_told, number_told, others_told}
 use Rattle.sqlite_trees.specs.declared.store.Store.{Ghosts}
 use Rattle.office_loading.specs.Closed.{last_closed}
-use Rattle.office_desk.specs.Calls.{OnlyLooks}
-use Rattle.office_desk.specs.Desks.{IsSound}
-use Rattle.office_desk.specs.Offices.{DeskHolds}
-use Rattle.office_desk.specs.Reports.{DeskTells, TellsOf, partner_called}
-use Rattle.office_desk.specs.declared.desk.Desk.{Desk}
+use Rattle.office_desk.specs.{Calls.OnlyLooks, Desks.IsSound, Offices.DeskHolds, Reports.{DeskTells, TellsOf, partner_called}, declared.desk.Desk.Desk}
 use Rattle.std.specs.FinMap as finite_map
 use Rattle.office_reports.specs.declared.query.Query.TheVariants as query
 
@@ -185,17 +179,17 @@ module _ {S A : Type 0} (g : Ghosts S) (are : List Archive → A → Type 0) (ol
       (container_told content es stand.list s.archived s.own s.whole s.rows s.parts s.is_own asked told s.hold is (filled_here content es stand asked told is tells))
 
   -- of lists those that are not away, and how many archives there are, if lists were put away
-  pub calls_beside : (told found : Option (List ℕ)) (put_away : Bool) (count : ℕ) → (put_away ≡ false → (list : List Archive) → are list a → (name : ListName) → lines_away list name ≡ None) → (put_away ≡ true → (list : List Archive) → are list a → HasListAway list)
-      → ((list : List Archive) → are list a → count ≡ archives_with_lists list put_away) → DeskTells g old query.Calls told → found ≡ with_archives count told → TellsBeside g are old a query.Calls found
-  calls_beside told found put_away count none some counted tells same content es stand =
+  pub calls_beside : (told found : Option (List ℕ)) (count : ℕ) → ((list : List Archive) → are list a → (put_away : Bool) × SaysIfAway list put_away × (count ≡ archives_with_lists list put_away)) → DeskTells g old query.Calls told
+      → found ≡ with_archives count told → TellsBeside g are old a query.Calls found
+  calls_beside told found count counted tells same content es stand =
       let s = stand.stands in
+      let put = counted stand.list stand.these in
       record {
         away = s.away;
         were_put_away = λ list e. ap is_some (s.lists.kept list e).are;
-        put_away = put_away;
-        none = λ e. none e stand.list stand.these;
-        some = λ e. some e stand.list stand.these;
-        told = same ∙ ap (λ k. with_archives k told) (counted stand.list stand.these) ∙ ap (with_archives (archives_with_lists stand.list put_away)) (told_here content es stand query.Calls told tells);
+        put_away = put.0;
+        says = put.1;
+        told = same ∙ ap (λ k. with_archives k told) put.2 ∙ ap (with_archives (archives_with_lists stand.list put.0)) (told_here content es stand query.Calls told tells);
       }
 
   -- a list that is not away, by a desk that was looked at

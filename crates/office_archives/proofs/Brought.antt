@@ -331,14 +331,16 @@ number_as content list place (query.Ticket partner k) code n called found is who
 number_as content list place other code n called found is who told = absurd is
 
 pub neither_as : (content : SetupContent) (list : List Archive) (place : ℕ) (asked : Query) (found : Option (List ℕ)) → ((container : BoxNumber) → asked ≡ query.Visits container → ⊥) → ((container : BoxNumber) → asked ≡ query.Container container → ⊥)
+    → (asked ≡ query.Calls → ⊥)
     → ((code : String Global) (number : ℕ) → asked ≡ query.Reply code number → ⊥) → ((code : String Global) (number : ℕ) → asked ≡ query.Contrl code number → ⊥) → ((code : String Global) (number : ℕ) → asked ≡ query.Ticket code number → ⊥)
     → IsReportIn list place asked found → TellsAsStore content list place asked found
-neither_as content list place (query.Visits container) found visits there reply contrl ticket told = absurd (visits container refl)
-neither_as content list place (query.Container container) found visits there reply contrl ticket told = absurd (there container refl)
-neither_as content list place (query.Reply code n) found visits there reply contrl ticket told = absurd (reply code n refl)
-neither_as content list place (query.Contrl code n) found visits there reply contrl ticket told = absurd (contrl code n refl)
-neither_as content list place (query.Ticket code n) found visits there reply contrl ticket told = absurd (ticket code n refl)
-neither_as content list place other found visits there reply contrl ticket told = told
+neither_as content list place (query.Visits container) found visits there calls reply contrl ticket told = absurd (visits container refl)
+neither_as content list place (query.Container container) found visits there calls reply contrl ticket told = absurd (there container refl)
+neither_as content list place query.Calls found visits there calls reply contrl ticket told = absurd (calls refl)
+neither_as content list place (query.Reply code n) found visits there calls reply contrl ticket told = absurd (reply code n refl)
+neither_as content list place (query.Contrl code n) found visits there calls reply contrl ticket told = absurd (contrl code n refl)
+neither_as content list place (query.Ticket code n) found visits there calls reply contrl ticket told = absurd (ticket code n refl)
+neither_as content list place other found visits there calls reply contrl ticket told = told
 
 module _ {S A : Type 0} (g : Ghosts S) (are : List Archive → A → Type 0) (desk : Desk S g) (a : A) where
   -- there is one at that place, and it tells so

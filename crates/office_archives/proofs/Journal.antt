@@ -7,8 +7,8 @@ use Rattle.office_rows.specs.{Rows.{Interchange, Rows}, Stored.HasRows}
 use Rattle.office_tables.{specs.{Reading.Reads, declared.table_fault.TableFault.TableFault}, proofs.MadeLemmas.clean_first}
 use Rattle.office_loading.{specs.Pages.lines_of, proofs.TakenLemmas.appends_then}
 use Rattle.office_parts.specs.{Archives.Archive, ArchiveJournal.{carried_on, journal_beyond, texts_added}}
-use Rattle.office_closing.specs.Register.{ArchiveContent, RegisterContent, last_closed}
-use Rattle.office_archives.specs.{Parts.{PartIsWritten, StandInOrder, WritesPart}, declared.passing.Rest.Rest}
+use Rattle.office_closing.specs.{Register.{ArchiveContent, RegisterContent, last_closed}, Seals.HasSeals}
+use Rattle.office_archives.specs.{Parts.{PartIsWritten, StandInOrder, WritesPart}, Shelves.ShowsSo, declared.passing.Rest.Rest}
 use Rattle.office_archives.specs.Texts.{AreAdded, AreShownAs, HasInOrder, IsAdded, IsJournal, WrittenIsJournal, closed_before}
 
 -- ---- what is left of two lists, one after the other
@@ -91,17 +91,18 @@ written_is_journal g h Opens names from read shown old new left written list row
 
 module _ {S : Type 0} (g : Ghosts S) (Opens : (place : ℕ) → Held S → Type 0) (names : RegisterContent) (place : ℕ) (rest : Rest) (opened read : Held S) where
   -- what was read and written of the archive that was opened at a place
-  pub added_by : (before after : ℕ → ℕ) (old new : Option (List ℕ)) → before ≡ closed_before place names → after ≡ closed_before (place + 1) names → Opens place opened
+  pub added_by : (before after : ℕ → ℕ) (old new : Option (List ℕ)) → before ≡ closed_before place names → after ≡ closed_before (place + 1) names → Opens place opened → ShowsSo g opened (HasSeals names place)
       → (result : Result (Option Rest) TableFault) → Reads (state g opened) (state g read) result
       → (HasCleanDisk (state g read) → IfOk result (λ left. (rows : Rows) → HasInOrder rows (state g opened) → WritesPart before after rest rows.interchanges old new left))
       → IfOk result (λ found. IfSome found (λ left. IsAdded g Opens names place rest old new left))
-  added_by before after old new before_is after_is opens (Err fault) reads writes = tt
-  added_by before after old new before_is after_is opens (Ok None) reads writes = tt
-  added_by before after old new before_is after_is opens (Ok (Some left)) reads writes = record {
+  added_by before after old new before_is after_is opens sealed (Err fault) reads writes = tt
+  added_by before after old new before_is after_is opens sealed (Ok None) reads writes = tt
+  added_by before after old new before_is after_is opens sealed (Ok (Some left)) reads writes = record {
     opened = opened;
     read = read;
     opens = opens;
     clean = λ clean. clean_first reads clean;
+    sealed = λ clean rows has once. sealed (clean_first reads clean) (reads.unchanged clean).0.was_open rows has once;
     writes = λ clean rows are.
         let part = writes clean rows are in
         subst (λ then_. PartIsWritten (closed_before place names) then_ rest rows.interchanges old new left) after_is
@@ -112,7 +113,7 @@ module _ {S : Type 0} (g : Ghosts S) (Opens Others : (place : ℕ) → Held S �
   -- the same of one that was opened on what the shelf was before
   pub added_still : (names : RegisterContent) (place : ℕ) (rest : Rest) (old new : Option (List ℕ)) (left : Rest) → IsAdded g Opens names place rest old new left → IsAdded g Others names place rest old new left
   added_still names place rest old new left one =
-      record { opened = one.opened; read = one.read; opens = still place one.opened one.opens; clean = one.clean; writes = one.writes }
+      record { opened = one.opened; read = one.read; opens = still place one.opened one.opens; clean = one.clean; sealed = one.sealed; writes = one.writes }
 
 -- ---- the store, after its archives
 

@@ -1,24 +1,24 @@
 -- Lists that are put into a register: of each list the lines are those that were put there last.
-use Rattle.std.specs.{Prelude.{IsTrue, filter, ◌&&◌, ◌==◌, fold, nat_le, nat_lt}, Option.{option_and_then, option_or}, declared.alloc.Global.Global}
-use Rattle.std.specs.List.{AllByRecursion, list_all}
-use Rattle.std.specs.Cmp.Lexicographic.{bytes_decides, slice_cmp}
-use Rattle.std.specs.Str.{bytes_eq}
-use Rattle.std.{specs.Ordering.{is_lt, nat_cmp, ordering_reverse, ordering_then}, proofs.lemmas.Bool.{and_parts, eqb-true, leb-true}}
-use Rattle.std.proofs.Common.{◌≡◌, ℕ, ◌≤◌, List, true, Option, None, Some, is_some, option_map, string_bytes, String, refl, sym, ap, subst, ◌∙◌, [], ◌∷◌, ◌++◌, Bool, map, false, cond, arith, Ordering, Less, Equal, Greater, is_gt}
-use Rattle.std.proofs.lemmas.Bool.Decides.{nat_tests}
-use Rattle.std.proofs.lemmas.Cmp.{nat_cmp_total, nat_list_cmp_total, tied_itself, upto}
+use Rattle.std.specs.{Prelude.{IsTrue, filter, ◌&&◌, ◌==◌, fold, nat_le, nat_lt, ◌-◌, remove, slice_get, slice_index_or}, declared.alloc.Global.Global}
+use Rattle.std.specs.{Option.{option_and_then, option_or, unwrap_or}, List.{AllByRecursion, list_all, position, position_or_len}, Str.bytes_eq}
+use Rattle.std.specs.{Cmp.Lexicographic.{bytes_decides, slice_cmp}, Ordering.{is_lt, nat_cmp, ordering_reverse, ordering_then}}
+use Rattle.std.proofs.{lemmas.Bool.{and_parts, eqb-true, leb-true, le-leb, leb-false, ltb-true}, lemmas.Bool.Decides.nat_tests, lemmas.List.Edits.length-remove}
+use Rattle.std.proofs.Common.{◌≡◌, ℕ, ◌≤◌, List, true, Option, None, Some, is_some, option_map, string_bytes, String, Result, Ok, Err, IfOk, refl, sym, ap, subst, ◌∙◌, [], ◌∷◌, ◌++◌, Bool, map, false, cond, arith, Ordering, Less, Equal, Greater, is_gt, ◌<◌, drop, length, take, zero, suc}
+use Rattle.std.proofs.{lemmas.Cmp.{nat_cmp_total, nat_list_cmp_total, tied_itself, upto}, lemmas.List.{length-append, length-drop}}
+use Rattle.std.proofs.{lemmas.List.Quantifiers.position-Some, lemmas.Option.{cond_some, same_Some, slice_get_read}}
 use Rattle.sqlite.specs.{Held.{Held, state}, State.HasCleanDisk}
 use Rattle.sqlite_trees.specs.declared.store.Store.{Ghosts}
 use Rattle.office_rows.specs.{Rows.Rows, Stored.HasRows}
-use Rattle.office_tables.specs.{Answers.{IsKept, IsNextOf}, declared.interchanges.Kept.Kept}
+use Rattle.office_tables.specs.{Answers.{IsKept, IsNextOf}, DeliveryReading.OnlyReads, declared.interchanges.Kept.Kept, declared.table_fault.TableFault.TableFault}
+use Rattle.office_tables.proofs.WriteLemmas.{was_clean, was_open}
 use Rattle.office_history.specs.After.{AreKeptOnce, reply_in, content_after, machine_after}
 use Rattle.office_parts.{specs.{Archives.{Archive, archive_of}, OwnTerminal.{own_terminal, MayStay}}, proofs.{Takings.visits_same, Splits.open_kept}}
-use Rattle.office_closing.specs.{Register.register_content, declared.register.Register.Register, Sound.{are_rising, may_be_list}}
-use Rattle.office_closing.specs.Lists.{SettledListContent, comes_before, is_of_list, lines_of_list, list_cmp, put_list, put_lists}
+use Rattle.office_closing.specs.{Register.register_content, Seals.HasSeals, declared.register.Register.Register, Sound.{are_rising, may_be_list}}
+use Rattle.office_closing.specs.Lists.{SettledListContent, comes_before, is_of_list, lines_of_list, list_cmp, lists_among, put_list, put_lists}
 use Rattle.office_closing.proofs.SoundLemmas.{list_total}
 use Rattle.office_desk.{specs.Reports.{TellsOf, TellsNext, partner_called}, proofs.Faults.reply_of_kept}
-use Rattle.office_archives.specs.{Shelves.{AreShelved, IsOpenAt, IsOpenIfAny, NamesAll, archive_at}, declared.opened.Opened.Opened}
-use Rattle.office_archives.specs.Reporting.{IsOfWhatStands, WhatStandsIsToldAlike}
+use Rattle.office_archives.specs.Shelves.{AreSealed, AreShelved, IsLastSound, IsOpenAt, IsOpenIfKnown, IsSealedIfSaid, IsSoundIfAny, IsToldBy, LeavesOpen, NamesAll, OpensFor, ShowsSo, archive_at, left_open, with_room}
+use Rattle.office_archives.specs.{declared.opened.Opened.Opened, Reporting.{IsOfWhatStands, WhatStandsIsToldAlike}}
 use Rattle.box6346.specs.declared.box_number.BoxNumber.{BoxNumber}
 use Rattle.edi_messages.specs.{Owned.call_content, declared.call.Call.Call, Purposes.CallContent, Texts.is_name}
 use Rattle.terminal_core.specs.{declared.lines.Side.Side, State.{LineContent, TerminalState, open_visit, side_code}}
@@ -28,19 +28,128 @@ use Rattle.office_reports.specs.Work.{is_open_entry, jobs_of, jobs_text, standin
 use Rattle.office_closing.specs.Register as register
 use Rattle.office_reports.specs.declared.query.Query.TheVariants as query
 
--- ==== Shelved: Archives on a shelf, of which one was asked.
+-- ==== Shelved: Archives on a shelf, of which some are open.
 
--- what is named and shelved stays so, with another open
-pub shelved_still : {S F : Type 0} (g : Ghosts S) (is_known : ℕ → Type 0) (holds : List Archive → F → Type 0) (list : List Archive) (shelf after : F) (names still : Register) (opened another : Option (Opened S g)) → AreShelved g is_known holds list shelf names opened → still ≡ names → holds list after
-    → IsOpenIfAny g is_known list another → AreShelved g is_known holds list after still another
-shelved_still g is_known holds list shelf after names still opened another are same on_shelf open_ = record {
-  on_shelf = on_shelf;
-  are_named = subst (λ r. NamesAll (register_content r) list) (sym same) are.are_named;
-  one_open = open_;
-}
+module _ {X : Type 0} (P : X → Type 0) where
+  all_taken : (n : ℕ) (xs : List X) → AllByRecursion P xs → AllByRecursion P (take n xs)
+  all_taken zero xs all = tt
+  all_taken (suc n) [] all = tt
+  all_taken (suc n) (x ∷ xs) all = (all.0, all_taken n xs all.1)
+
+  all_dropped : (n : ℕ) (xs : List X) → AllByRecursion P xs → AllByRecursion P (drop n xs)
+  all_dropped zero xs all = all
+  all_dropped (suc n) [] all = tt
+  all_dropped (suc n) (x ∷ xs) all = all_dropped n xs all.1
+
+  pub all_both : (xs ys : List X) → AllByRecursion P xs → AllByRecursion P ys → AllByRecursion P (xs ++ ys)
+  all_both [] ys first rest = rest
+  all_both (x ∷ xs) ys first rest = (first.0, all_both xs ys first.1 rest)
+
+  pub all_at : (xs : List X) (i : ℕ) (x : X) → AllByRecursion P xs → slice_get xs i ≡ Some x → P x
+  all_at [] i x all at = let never : None ≡ Some x = at in absurd cc
+  all_at (y ∷ xs) zero x all at = subst P (same_Some y x at) all.0
+  all_at (y ∷ xs) (suc i) x all at = all_at xs i x all.1 at
+
+last_put : {X : Type 0} (xs : List X) (x : X) → slice_get (xs ++ x ∷ []) (length xs) ≡ Some x
+last_put [] x = refl
+last_put (y ∷ xs) x = last_put xs x
+
+-- the one that was put back last was asked last
+pub asked_last : {S : Type 0} (g : Ghosts S) (is_known : ℕ → Type 0) (left opened : List (Opened S g)) (one : Opened S g) → opened ≡ left ++ one ∷ [] → IsLastSound g is_known opened
+    → IsSoundIfAny g is_known (Some one)
+asked_last g is_known left opened one is sound =
+    let many = length-append left (one ∷ []) in
+    let last : length (left ++ one ∷ []) - 1 ≡ length left = omega (arith, many) in
+    subst (IsSoundIfAny g is_known) (ap (slice_get (left ++ one ∷ [])) last ∙ last_put left one) (subst (IsLastSound g is_known) is sound)
+
+-- those that stay open beside the one that is asked
+module _ {S : Type 0} (g : Ghosts S) (place : ℕ) (opened : List (Opened S g)) where
+  abbrev is_there : Opened S g → Bool
+  is_there one = one.place == place
+
+  pub within : (i : ℕ) → position is_there opened ≡ Some i → i < length opened
+  within i e =
+      let first = position_or_len is_there opened in
+      let both = cond_some (nat_lt first (length opened)) first i e in
+      subst (λ k. k < length opened) both.1 (ltb-true first (length opened) both.0)
+
+  pub at_place : (i : ℕ) (one : Opened S g) → position is_there opened ≡ Some i → one ≡ slice_index_or opened i one → one.place ≡ place
+  at_place i one e is = eqb-true one.place place (ap is_there is ∙ (position-Some is_there opened i one e).1)
+
+  pub one_at : (i : ℕ) (one : Opened S g) → position is_there opened ≡ Some i → one ≡ slice_index_or opened i one → slice_get opened i ≡ Some one
+  one_at i one e is = slice_get_read opened (length opened) i one refl (within i e) is
+
+  left_all : (P : Opened S g → Type 0) → AllByRecursion P opened → AllByRecursion P (left_open place opened)
+  left_all P all = by (position is_there opened)
+    where
+      room : (full : Bool) → AllByRecursion P (cond full (drop 1 opened) opened)
+      room true = all_dropped P 1 opened all
+      room false = all
+
+      by : (found : Option ℕ) → AllByRecursion P (unwrap_or (option_map (remove opened) found) (with_room opened))
+      by None = room (nat_le 4 (length opened))
+      by (Some i) = all_both P (take i opened) (drop (suc i) opened) (all_taken P i opened all) (all_dropped P (suc i) opened all)
+
+  pub left_few : length opened ≤ 4 → length (left_open place opened) < 4
+  left_few few = by (position is_there opened) refl
+    where
+      room : (full : Bool) → nat_le 4 (length opened) ≡ full → length (cond full (drop 1 opened) opened) < 4
+      room true e = let less = length-drop 1 opened in omega (arith, few, less)
+      room false e = leb-false 4 (length opened) e
+
+      by : (found : Option ℕ) → position is_there opened ≡ found → length (unwrap_or (option_map (remove opened) found) (with_room opened)) < 4
+      by None e = room (nat_le 4 (length opened)) refl
+      by (Some i) e = let less = length-remove opened i (within i e) in omega (arith, few, less)
+
+module _ {S F : Type 0} (g : Ghosts S) (is_known : ℕ → Type 0) (holds : List Archive → F → Type 0) (shelf after : F) (names still : Register) where
+  -- those that stay open have the seals that they are said to have
+  sealed_left : (place : ℕ) (opened left : List (Opened S g)) → AreSealed g (register_content names) opened → still ≡ names → left ≡ left_open place opened → AreSealed g (register_content still) left
+  sealed_left place opened left are same is =
+      subst (λ r. AreSealed g (register_content r) left) (sym same) (subst (AreSealed g (register_content names)) (sym is) (left_all g place opened (IsSealedIfSaid g (register_content names)) are))
+
+  -- what is named and shelved stays so beside the one that is asked
+  shelved_left : (list : List Archive) (place : ℕ) (opened left : List (Opened S g)) → AreShelved g is_known holds list shelf names opened → still ≡ names → holds list after → left ≡ left_open place opened → AreShelved g is_known holds list after still left
+  shelved_left list place opened left are same on_shelf is = record {
+    on_shelf = on_shelf;
+    are_named = subst (λ r. NamesAll (register_content r) list) (sym same) are.are_named;
+    few_open = let few = left_few g place opened are.few_open in let e = ap length is in omega (arith, few, e);
+    are_open = subst (AllByRecursion (IsOpenIfKnown g is_known list)) (sym is) (left_all g place opened (IsOpenIfKnown g is_known list) are.are_open);
+    are_sealed = sealed_left place opened left are.are_sealed same is;
+  }
+
+  pub leaves_open : (place : ℕ) (opened left : List (Opened S g)) → still ≡ names → ((list : List Archive) → holds list shelf → holds list after) → left ≡ left_open place opened → LeavesOpen g is_known holds place shelf after names still opened left
+  leaves_open place opened left same holds_still is = record {
+    named = same;
+    left = is;
+    room = λ few. subst (λ l. length l < 4) (sym is) (left_few g place opened few);
+    sealed = λ are. sealed_left place opened left are same is;
+    same = λ list are. shelved_left list place opened left are same (holds_still list are.on_shelf) is;
+  }
+
+module _ {S F : Type 0} (g : Ghosts S) (is_known : ℕ → Type 0) (holds : List Archive → F → Type 0) (list : List Archive) (shelf after : F) (names still : Register) where
+  -- so it does with those that are open, and with one more
+  pub shelved_same : (opened another : List (Opened S g)) → AreShelved g is_known holds list shelf names opened → still ≡ names → holds list after → another ≡ opened → AreShelved g is_known holds list after still another
+  shelved_same opened another are same on_shelf is = record {
+    on_shelf = on_shelf;
+    are_named = subst (λ r. NamesAll (register_content r) list) (sym same) are.are_named;
+    few_open = subst (λ l. length l ≤ 4) (sym is) are.few_open;
+    are_open = subst (AllByRecursion (IsOpenIfKnown g is_known list)) (sym is) are.are_open;
+    are_sealed = subst (λ r. AreSealed g (register_content r) another) (sym same) (subst (AreSealed g (register_content names)) (sym is) are.are_sealed);
+  }
+
+  pub shelved_more : (opened another : List (Opened S g)) (one : Opened S g) → AreShelved g is_known holds list shelf names opened → still ≡ names → holds list after → another ≡ opened ++ one ∷ [] → length opened < 4 → IsOpenIfKnown g is_known list one
+      → IsSealedIfSaid g (register_content names) one → AreShelved g is_known holds list after still another
+  shelved_more opened another one are same on_shelf is few open_ sealed = record {
+    on_shelf = on_shelf;
+    are_named = subst (λ r. NamesAll (register_content r) list) (sym same) are.are_named;
+    few_open = let many = ap length is ∙ length-append opened (one ∷ []) in omega (arith, few, many);
+    are_open = subst (AllByRecursion (IsOpenIfKnown g is_known list)) (sym is) (all_both (IsOpenIfKnown g is_known list) opened (one ∷ []) are.are_open (open_, tt));
+    are_sealed = subst (λ r. AreSealed g (register_content r) another) (sym same)
+        (subst (AreSealed g (register_content names)) (sym is) (all_both (IsSealedIfSaid g (register_content names)) opened (one ∷ []) are.are_sealed (sealed, tt)));
+  }
 
 -- the place of a number's archive is where it stands
-pub archive_there : {S F : Type 0} (g : Ghosts S) (is_known : ℕ → Type 0) (holds : List Archive → F → Type 0) (list : List Archive) (shelf : F) (names : Register) (opened : Option (Opened S g)) (p n place : ℕ) (archive : Archive) → 1 ≤ n → AreShelved g is_known holds list shelf names opened
+pub archive_there : {S F : Type 0} (g : Ghosts S) (is_known : ℕ → Type 0) (holds : List Archive → F → Type 0) (list : List Archive) (shelf : F) (names : Register) (opened : List (Opened S g)) (p n place : ℕ) (archive : Archive) → 1 ≤ n → AreShelved g is_known holds list shelf names opened
     → register.archive_of (register_content names).segments p n ≡ Some place → archive_of list p n ≡ Some archive → archive_at list place ≡ Some archive
 archive_there g is_known holds list shelf names opened p n place archive low are at reached = sym (are.are_named.named p n low ∙ ap (option_and_then (archive_at list)) at) ∙ reached
 
@@ -50,6 +159,47 @@ pub open_still : {S : Type 0} (g : Ghosts S) (list : List Archive) (place : ℕ)
 open_still g list place before after first was_open same is clean now_open archive at =
     let there = is (first clean) (was_open clean now_open) archive at in
     record { has = subst (HasRows archive.rows) (sym (same clean now_open)) there.has; kept_once = there.kept_once }
+
+-- what it shows is so as before
+pub shows_still : {S : Type 0} (g : Ghosts S) (IsSo : Rows → Type 0) (before after : Held S) → (HasCleanDisk (state g after) → HasCleanDisk (state g before)) → (HasCleanDisk (state g after) → IsTrue (state g after).is_open → IsTrue (state g before).is_open)
+    → (HasCleanDisk (state g after) → IsTrue (state g after).is_open → (state g after).committed ≡ (state g before).committed) → ShowsSo g before IsSo → ShowsSo g after IsSo
+shows_still g IsSo before after first was_open same is clean now_open rows has once = is (first clean) (was_open clean now_open) rows (subst (HasRows rows) (same clean now_open) has) once
+
+-- One was taken out and looked at, and nothing was committed: it is put back as it was.
+module _ {S : Type 0} (g : Ghosts S) (opened : Opened S g) (after : Held S) (first : HasCleanDisk (state g after) → HasCleanDisk (state g opened.archive.conn)) (was_open_ : HasCleanDisk (state g after) → IsTrue (state g after).is_open → IsTrue (state g opened.archive.conn).is_open)
+    (same : HasCleanDisk (state g after) → IsTrue (state g after).is_open → (state g after).committed ≡ (state g opened.archive.conn).committed) where
+  pub known_still : (is_known : ℕ → Type 0) (list : List Archive) (place : ℕ) → opened.place ≡ place → (is_known place → IsOpenAt g list place opened.archive.conn) → is_known opened.place → IsOpenAt g list opened.place after
+  known_still is_known list place at is known =
+      open_still g list opened.place opened.archive.conn after first was_open_ same
+      (subst (λ there. IsOpenAt g list there opened.archive.conn) (sym at) (is (subst is_known at known)))
+
+  pub sealed_still : (names still : Register) → still ≡ names → IsSealedIfSaid g (register_content names) opened → opened.is_sealed ≡ true → ShowsSo g after (HasSeals (register_content still) opened.place)
+  sealed_still names still named sealed said =
+      subst (λ r. ShowsSo g after (HasSeals (register_content r) opened.place)) (sym named)
+      (shows_still g (HasSeals (register_content names) opened.place) opened.archive.conn after first was_open_ same (sealed said))
+
+-- of an archive that is known what it told is so of the archive itself, if it is sound
+pub told_archive : {S F : Type 0} (g : Ghosts S) (is_known : ℕ → Type 0) (holds : List Archive → F → Type 0) (list : List Archive) (shelf : F) (names : Register) (opened now : List (Opened S g)) (place : ℕ) (IsSo : Rows → Type 0) (archive : Archive)
+    → IsToldBy g (OpensFor g is_known holds shelf names opened place) place now IsSo → IsLastSound g is_known now → AreShelved g is_known holds list shelf names opened → archive_at list place ≡ Some archive → IsSo archive.rows × AreKeptOnce archive.rows.interchanges
+told_archive g is_known holds list shelf names opened now place IsSo archive told last are at =
+    let sound = asked_last g is_known told.before now told.one told.last last in
+    let there = told.opens (subst is_known told.at sound.2) list are sound.0 sound.1 archive at in
+    (told.shows sound.0 sound.1 archive.rows there.has there.kept_once, there.kept_once)
+
+-- so it is of each, if its seals were found since it was opened
+pub told_report : {S F T : Type 0} (g : Ghosts S) (is_known : ℕ → Type 0) (holds : List Archive → F → Type 0) (shelf : F) (names : Register) (opened now : List (Opened S g)) (place : ℕ) (IsSo : T → Rows → Type 0) (result : Result T TableFault)
+    → (AreSealed g (register_content names) opened → IfOk result (λ found. IsToldBy g (OpensFor g is_known holds shelf names opened place) place now (IsSo found))) → IsLastSound g is_known now
+    → IfOk result (λ found. (list : List Archive) → AreShelved g is_known holds list shelf names opened → (archive : Archive) → archive_at list place ≡ Some archive → IsSo found archive.rows)
+told_report g is_known holds shelf names opened now place IsSo (Ok found) told last = λ list are archive at.
+    (told_archive g is_known holds list shelf names opened now place (IsSo found) archive (told are.are_sealed) last are at).0
+told_report g is_known holds shelf names opened now place IsSo (Err fault) told last = tt
+
+-- so it does if it was only read
+pub open_read : {S X : Type 0} (g : Ghosts S) (list : List Archive) (place : ℕ) (before after : Held S) {result : Result X TableFault} → OnlyReads (state g before) (state g after) result → IsOpenAt g list place before → IsOpenAt g list place after
+open_read g list place before after reads = open_still g list place before after (λ clean. was_clean reads clean) (λ clean now_open. was_open reads clean now_open) (λ clean now_open. (reads.reads.keeps clean).committed now_open)
+
+pub shows_read : {S X : Type 0} (g : Ghosts S) (IsSo : Rows → Type 0) (before after : Held S) {result : Result X TableFault} → OnlyReads (state g before) (state g after) result → ShowsSo g before IsSo → ShowsSo g after IsSo
+shows_read g IsSo before after reads = shows_still g IsSo before after (λ clean. was_clean reads clean) (λ clean now_open. was_open reads clean now_open) (λ clean now_open. (reads.reads.keeps clean).committed now_open)
 
 some_mapped : (o : Option (String Global)) → is_some (option_map string_bytes o) ≡ is_some o
 some_mapped None = refl
@@ -296,6 +446,39 @@ module _ (call : CallContent) (side : Side) where
   pub put_told : (archive : ℕ) (more lists : List SettledListContent) → AllByRecursion (λ (x : SettledListContent). x.archive ≡ archive) more → Rises lists → AllByRecursion (λ (x : SettledListContent). x.archive ≤ archive) lists
       → lines_of_list (put_lists more lists) call side ≡ option_or (lines_of_list more call side) (lines_of_list lists call side)
   put_told archive more lists own rise old = told_all archive more lists own rise old ∙ last_told (told None lists) more
+
+-- ---- those of the first so many archives
+
+is_later : (count archive : ℕ) → count < archive → nat_le archive count ≡ false
+is_later count archive late = by (nat_le archive count) refl
+  where
+    by : (early : Bool) → nat_le archive count ≡ early → early ≡ false
+    by true e = absurd (omega (arith, late, leb-true archive count e))
+    by false e = refl
+
+-- one that is put there with a later archive is none of them
+put_later : (count : ℕ) (new : SettledListContent) (lists : List SettledListContent) → count < new.archive → lists_among count (put_list new lists) ≡ lists_among count lists
+put_later count new [] late = ap (λ b. cond b (new ∷ []) []) (is_later count new.archive late)
+put_later count new (x ∷ lists) late = by (comes_before new x) (put_later count new lists late)
+  where
+    by : (first : Bool) → lists_among count (put_list new lists) ≡ lists_among count lists → lists_among count (cond first (new ∷ x ∷ lists) (x ∷ put_list new lists)) ≡ lists_among count (x ∷ lists)
+    by true rest = ap (λ b. cond b (new ∷ lists_among count (x ∷ lists)) (lists_among count (x ∷ lists))) (is_later count new.archive late)
+    by false rest = ap (λ l. cond (nat_le x.archive count) (x ∷ l) l) rest
+
+pub all_later_put : (count archive : ℕ) (more lists : List SettledListContent) → AllByRecursion (λ (x : SettledListContent). x.archive ≡ archive) more → count < archive → lists_among count (put_lists more lists) ≡ lists_among count lists
+all_later_put count archive [] lists own late = refl
+all_later_put count archive (new ∷ more) lists own late = all_later_put count archive more (put_list new lists) own.1 late ∙ put_later count new lists (let same = own.0 in omega (arith, late, same))
+
+-- all are among them if none is of a later archive
+pub all_among : (count : ℕ) (lists : List SettledListContent) → AllByRecursion (λ (x : SettledListContent). x.archive ≤ count) lists → lists_among count lists ≡ lists
+all_among count [] early = refl
+all_among count (x ∷ lists) early = ap (λ b. cond b (x ∷ lists_among count lists) (lists_among count lists)) (le-leb x.archive count early.0) ∙ ap (λ l. x ∷ l) (all_among count lists early.1)
+
+pub puts_up_to : (count archive : ℕ) (more lists : List SettledListContent) → AllByRecursion (λ (x : SettledListContent). x.archive ≡ archive) more → archive ≤ count → AllByRecursion (λ (x : SettledListContent). x.archive ≤ count) lists
+    → AllByRecursion (λ (x : SettledListContent). x.archive ≤ count) (put_lists more lists)
+puts_up_to count archive [] lists own high early = early
+puts_up_to count archive (new ∷ more) lists own high early =
+    puts_up_to count archive more (put_list new lists) own.1 high (put_all (λ (x : SettledListContent). x.archive ≤ count) new lists (let same = own.0 in omega (arith, high, same)) early)
 
 -- ---- a sound register's
 

@@ -1,8 +1,8 @@
 -- What a store's rows and its archives tell, and what the rows after the events tell.
 use Rattle.std.specs.{Prelude.{◌==◌, nat_lt, not, filter, Contains, string_bytes, ◌&&◌, nat_le, max, if◌then◌else◌, find, slice_get}, List.Sorted.IsPermutation}
-use Rattle.std.{specs.{Option.{option_and_then, option_map, option_or}, List.{AllByRecursion, list_all}}, proofs.lemmas.List.Folds.find-append}
-use Rattle.std.proofs.Common.{◌≡◌, ℕ, ◌+◌, ◌<◌, List, [], ◌∷◌, length, map, Bool, true, false, cond, Option, None, Some, refl, sym, ap, subst, ◌∙◌, arith, zero, suc, ◌-◌, ◌≤◌, ◌++◌, inl, inr, ◌⊎◌}
-use Rattle.std.proofs.lemmas.Bool.{and_parts, eqb-true, leb-true, ltb-true, le-leb, leb-false}
+use Rattle.std.{specs.{Option.{option_and_then, option_map, option_or}, List.{AllByRecursion, list_all}}, proofs.lemmas.List.{take-append-le, take_all}}
+use Rattle.std.proofs.Common.{◌≡◌, ℕ, ◌+◌, ◌<◌, List, [], ◌∷◌, length, map, take, Bool, true, false, cond, Option, None, Some, refl, sym, ap, subst, ◌∙◌, arith, zero, suc, ◌-◌, ◌≤◌, ◌++◌, inl, inr, ◌⊎◌}
+use Rattle.std.proofs.{lemmas.Bool.{and_parts, eqb-true, leb-true, ltb-true, le-leb, leb-false}, lemmas.List.Folds.find-append}
 use Rattle.edi_messages.specs.{declared.codes.PartnerKind.PartnerKind, Purposes.CallContent}
 use Rattle.partner_core.specs.Deliveries.{run}
 use Rattle.sqlite_rules.proofs.ListLemmas.{contains_had, has_contained, has_filtered}
@@ -21,11 +21,12 @@ use Rattle.office_desk.specs.Reports.{AreLookedUp, IsLookedUp, TellsAfter, Tells
 use Rattle.office_archives.specs.{Beyond.IsBeyond, Counted.IsOfPartners, Reporting.IsOfWhatStands, Standing.IsOwnWithRest}
 use Rattle.office_archives.specs.Telling.{IsOfContainer, IsOfList, IsOfNeither, IsOfNumber, TellsTogether, with_archives}
 use Rattle.office_archives.{specs.Shelves.{HasLists, IsKeptAs, IsOfCall, NamesAll, NamesOneMore, archive_at}, proofs.Moves.{metrics_told, partners_told}}
-use Rattle.office_archives.proofs.{StayedTold.{beyond_told, containers_told, visits_told}, Rising.{told_alike, put_told, rises, up_to_most}}
+use Rattle.office_archives.proofs.StayedTold.{beyond_told, containers_told, visits_told}
+use Rattle.office_archives.proofs.Rising.{all_among, all_later_put, told_alike, put_told, puts_up_to, rises, up_to_most}
 use Rattle.edi_syntax.specs.Numbers.{last_number}
-use Rattle.office_closing.specs.{Changes.closed_with, Lists.{SettledListContent, lines_of_list, put_lists}, declared.register.Segment.Segment}
-use Rattle.office_closing.specs.Register.{ArchiveContent, RegisterContent, is_of, last_closed, reaches}
-use Rattle.office_closing.specs.Sound.{are_in_order, are_rising, are_sound_archives, are_sound_segments, are_sound_taken, close_more, is_sound, is_sound_mark, is_within, may_be_list}
+use Rattle.office_closing.specs.{Changes.closed_with, Lists.{SettledListContent, lines_of_list, lists_among, put_lists}, declared.register.Segment.Segment}
+use Rattle.office_closing.specs.Register.{ArchiveContent, RegisterContent, is_of, last_closed, reaches, SealedContent}
+use Rattle.office_closing.specs.Sound.{are_in_order, are_rising, are_sound_archives, are_sound_segments, are_sound_sealed, are_sound_taken, close_more, is_sound, is_sound_mark, is_within, may_be_list}
 use Rattle.office_reports.specs.declared.query.Query.TheVariants as query
 use Rattle.office_parts.specs.Archives as parts
 
@@ -279,11 +280,15 @@ of_either one other P (inr is) others = inr is
 of_either one other P (inl never) (inr is) = inr is
 of_either one other P (inl never) (inl before) = inl (ap (λ o. option_or o other) never ∙ before)
 
+-- these rows have the lines of the list as these archives have them
+abbrev AreKeptIn : CallContent → Side → List SettledListContent → List Archive → Type 0
+AreKeptIn call side rows archives = IsKeptAs call side (lines_of_list rows call side) (lines_away archives (list_name call side))
+
 -- ---- an archive more
 
-module _ (names : RegisterContent) (list : List Archive) (archive : ArchiveContent) (segments : List Segment) (lists : List SettledListContent) (taken : List Segment) (one : Archive) (sound : is_sound names ≡ true) (are : NamesAll names list)
+module _ (names : RegisterContent) (list : List Archive) (archive : ArchiveContent) (segments : List Segment) (lists : List SettledListContent) (taken : List Segment) (sealed : List SealedContent) (one : Archive) (sound : is_sound names ≡ true) (are : NamesAll names list)
     (own : AllByRecursion (λ (segment : Segment). segment.archive ≡ length list + 1) segments) (own_lists : AllByRecursion (λ (put : SettledListContent). put.archive ≡ length list + 1) lists)
-    (closed : (partner : ℕ) → one.last_closed partner ≡ last_closed (closed_with archive segments lists taken names).segments partner) (has : HasLists one lists) where
+    (closed : (partner : ℕ) → one.last_closed partner ≡ last_closed (closed_with archive segments lists taken sealed names).segments partner) (has : HasLists one lists) where
   abbrev more : List Archive
   more = list ++ one ∷ []
 
@@ -300,7 +305,7 @@ module _ (names : RegisterContent) (list : List Archive) (archive : ArchiveConte
   lists_rise = are_rising None names.lists
 
   abbrev the_last : Bool
-  the_last = are_sound_taken most names.taken && is_sound_mark names.closed_for
+  the_last = are_sound_taken most names.taken && (are_sound_sealed most names.sealed && is_sound_mark names.closed_for)
 
   abbrev with_lists : Bool
   with_lists = (lists_within && lists_rise) && the_last
@@ -361,12 +366,28 @@ module _ (names : RegisterContent) (list : List Archive) (archive : ArchiveConte
       (subst (IsKeptAs call side (option_or (lines_of_list lists call side) (lines_of_list names.lists call side))) (sym (away_with list one (list_name call side)))
       (kept_last call side _ _ _ _ (has.kept call side) (are.lists call side)))
 
+  -- with the first so many, all but the new one, or all
+  among_then : (count : ℕ) (call : CallContent) (side : Side) → AreKeptIn call side (lists_among count (put_lists lists names.lists)) (take count more)
+  among_then count call side = by (nat_le count (length list)) refl
+    where
+      by : (early : Bool) → nat_le count (length list) ≡ early → AreKeptIn call side (lists_among count (put_lists lists names.lists)) (take count more)
+      by true e =
+          let low = leb-true count (length list) e in
+          subst (λ rows. AreKeptIn call side rows (take count more)) (sym (all_later_put count (length list + 1) lists names.lists own_lists (omega (arith, low))))
+          (subst (AreKeptIn call side (lists_among count names.lists)) (sym (take-append-le count list (one ∷ []) low)) (are.among count call side))
+      by false e =
+          let high = leb-false count (length list) e in
+          let old = up_to_most most count names.lists (omega (arith, are.counted, high)) (and_parts lists_within lists_rise sound_lists).0 in
+          subst (λ rows. AreKeptIn call side rows (take count more)) (sym (all_among count (put_lists lists names.lists) (puts_up_to count (length list + 1) lists names.lists own_lists (omega (arith, high)) old)))
+          (subst (AreKeptIn call side (put_lists lists names.lists)) (sym (take_all count more (let many = longer list one in omega (arith, high, many)))) (kept_then call side))
+
   of_calls_then : (name : ListName) → (lines_away more name ≡ None) ⊎ IsOfCall name
   of_calls_then name = subst (λ o. (o ≡ None) ⊎ IsOfCall name) (sym (away_with list one name)) (of_either (one.lists name) (lines_away list name) (IsOfCall name) (has.of_calls name) (are.of_calls name))
 
-  all_named : NamesAll (closed_with archive segments lists taken names) more
+  all_named : NamesAll (closed_with archive segments lists taken sealed names) more
   all_named = record {
     lists = kept_then;
+    among = among_then;
     of_calls = of_calls_then;
     counted = longer list one ∙ ap (λ n. n + 1) are.counted ∙ sym (longer names.archives archive);
     named = λ p n from. named p n from (find (reaches p n) names.segments) (find (reaches p n) segments) refl refl
@@ -374,4 +395,4 @@ module _ (names : RegisterContent) (list : List Archive) (archive : ArchiveConte
   }
 
 pub names_one_more : NamesOneMore
-names_one_more names list archive segments lists taken one sound are own own_lists closed has = all_named names list archive segments lists taken one sound are own own_lists closed has
+names_one_more names list archive segments lists taken sealed one sound are own own_lists closed has = all_named names list archive segments lists taken sealed one sound are own own_lists closed has

@@ -1,5 +1,5 @@
 -- What a store and its archives report together.
-use Rattle.std.specs.Prelude.{◌≡◌, ◌⊎◌, ◌==◌, ℕ, ◌≤◌, Bool, true, false, is_some, ◌-◌, List, [], ◌∷◌, ◌++◌, length, Option, None, Some, codes, decimal, string_bytes, if◌then◌else◌}
+use Rattle.std.specs.Prelude.{◌≡◌, ◌⊎◌, ◌==◌, ℕ, ◌≤◌, Bool, true, false, is_some, ◌-◌, List, [], ◌∷◌, ◌++◌, length, take, Option, None, Some, codes, decimal, string_bytes, if◌then◌else◌}
 use Rattle.std.specs.Option.{unwrap_or}
 use Rattle.office_replies.specs.Events.{Event}
 use Rattle.office_rows.specs.Rows.{Rows}
@@ -37,6 +37,11 @@ IsOfContainer other = ⊥
 abbrev pub HasListAway : List Archive → Type 0
 HasListAway archives = (list : ListName) × (is_some (lines_away archives list) ≡ true)
 
+-- whether lists were put away with these archives
+pub record SaysIfAway (archives : List Archive) (put_away : Bool) : Type 0 where
+  pub none : put_away ≡ false → (list : ListName) → lines_away archives list ≡ None
+  pub some : put_away ≡ true → HasListAway archives
+
 -- so many are told of as not looked at, if lists were put away
 abbrev pub archives_with_lists : List Archive → (put_away : Bool) → ℕ
 archives_with_lists archives put_away = if put_away then length archives else 0
@@ -47,8 +52,7 @@ pub record TellsOwnCalls (archives : List Archive) (lines : Lines) (found : Opti
   pub away : ListName → Bool
   pub were_put_away : (list : ListName) → away list ≡ true → is_some (lines_away archives list) ≡ true
   pub put_away : Bool
-  pub none : put_away ≡ false → (list : ListName) → lines_away archives list ≡ None
-  pub some : put_away ≡ true → HasListAway archives
+  pub says : SaysIfAway archives put_away
   pub told : found ≡ with_archives (archives_with_lists archives put_away) (Some (calls_text (own_lines away lines)))
 
 -- ---- numbers that are closed
@@ -122,6 +126,15 @@ abbrev pub TellsOwnContainer : List Archive → (place : ℕ) → Query → Opti
 TellsOwnContainer archives place asked found =
     (own : Option (List ℕ)) × IsReportIn archives place asked own × (found ≡ with_archives (place - 1) own)
 
+-- of lists: what the archive's own rows tell, and in a last line how many archives there were when it was closed, if lists were
+-- put away with them
+pub record TellsCallsThen (archives : List Archive) (place : ℕ) (found : Option (List ℕ)) : Type 0 where
+  pub own : Option (List ℕ)
+  pub is : IsReportIn archives place query.Calls own
+  pub put_away : Bool
+  pub says : SaysIfAway (take (place - 1) archives) put_away
+  pub told : found ≡ with_archives (archives_with_lists (take (place - 1) archives) put_away) own
+
 -- Of a number, of the partner that has the code: what the archive's own rows tell, if it was not closed before; else what its
 -- archive tells. Numbers are from 1. If nobody has the code, what the archive's own rows tell.
 abbrev pub TellsOwnNumber : List Archive → (place : ℕ) → Query → (code : List ℕ) → (number : ℕ) → Option ℕ →
@@ -138,6 +151,7 @@ TellsAsStore content archives place (query.Visits container) found =
     TellsOwnContainer archives place (query.Visits container) found
 TellsAsStore content archives place (query.Container container) found =
     TellsOwnContainer archives place (query.Container container) found
+TellsAsStore content archives place query.Calls found = TellsCallsThen archives place found
 TellsAsStore content archives place (query.Reply code number) found =
     TellsOwnNumber archives place (query.Reply code number) (string_bytes code) number
     (partner_called content (string_bytes code)) found

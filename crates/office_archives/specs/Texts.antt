@@ -5,7 +5,8 @@ use Rattle.sqlite_trees.specs.declared.store.Store.{Ghosts}
 use Rattle.office_rows.specs.{Rows.Rows, Stored.HasRows, Tables.interchange_table}
 use Rattle.office_loading.specs.Pages.{lines_of}
 use Rattle.office_parts.specs.{Archives.Archive, ArchiveJournal.journal_of}
-use Rattle.office_closing.specs.Register.{ArchiveContent, RegisterContent, last_closed}
+use Rattle.office_closing.specs.{Register.{ArchiveContent, RegisterContent, last_closed}, Seals.HasSeals}
+use Rattle.office_history.specs.After.{AreKeptOnce}
 use Rattle.office_archives.specs.{Parts.{PartIsWritten, StandInOrder}, declared.passing.Rest.Rest, Shelves.{IsOpenAt, register_before}}
 
 -- the last numbers that were closed before the archive at a place, as a register says
@@ -25,13 +26,15 @@ OpensOn g is_known holds shelf place conn =
 
 module _ {S : Type 0} (g : Ghosts S) (Opens : (place : ℕ) → Held S → Type 0) where
   -- The archive at a place was opened, and its texts were written, by what it showed then, if its disk has returned in the
-  -- end what was written. So much is left to be passed over.
+  -- end what was written; it kept all that the register has sealed with it. So much is left to be passed over.
   pub record IsAdded (names : RegisterContent) (place : ℕ) (rest : Rest) (old new : Option (List ℕ)) (left : Rest)
       : Type 0 where
     pub opened : Held S
     pub read : Held S
     pub opens : Opens place opened
     pub clean : HasCleanDisk (state g read) → HasCleanDisk (state g opened)
+    pub sealed : HasCleanDisk (state g read) → (rows : Rows) → HasRows rows (state g opened).committed →
+        AreKeptOnce rows.interchanges → HasSeals names place rows
     pub writes : HasCleanDisk (state g read) → (rows : Rows) → HasInOrder rows (state g opened) →
         PartIsWritten (closed_before place names) (closed_before (place + 1) names) rest rows.interchanges old new left
 

@@ -15,7 +15,9 @@ ghost use Rattle.office_replies.specs.Events.{Event};
 ghost use Rattle.office_tables.specs.declared.table_fault.TableFault.TheVariants.{Version};
 ghost use Rattle.sqlite.specs.{Held.state, State.HasCleanDisk};
 
-use crate::archives::{Archives, answer_closed, partner_called, tell_closed, with_archives};
+use crate::archives::{
+    Archives, answer_closed, archives_with_lists, partner_called, tell_closed, with_archives,
+};
 use crate::bringing::bring_back_named;
 use crate::lists_away::{lines_if_away, report_by_lines};
 use edi_messages::Call;
@@ -206,11 +208,7 @@ impl<S: Alter + Drop, A: Archives + Drop> ArchivedDesk<S, A> {
         ensures last_fault { self.new.desk.last_fault ≡ self.old.desk.last_fault }
     {
         let told = self.desk.find_report(alloc, query)?;
-        let count = if self.archives.has_lists() {
-            self.archives.count()
-        } else {
-            0
-        };
+        let count = archives_with_lists(&self.archives, self.archives.count());
         Ok(with_archives(alloc, told, count)?)
     }
 
@@ -373,9 +371,9 @@ impl<S: Alter + Drop, A: Archives + Drop> Report for ArchivedDesk<S, A> {
     }
 }
 
-/// What the archive at a place reports for a query, as the store that it was: of a container also how many archives
-/// there were then, of a number that was closed before what that number's archive keeps. None if there is no such
-/// archive, or it reports nothing. No archive changes.
+/// What the archive at a place reports for a query, as the store that it was: of a container, and of its lists if some were
+/// put away by then, also how many archives there were then, of a number that was closed before what that number's archive
+/// keeps. None if there is no such archive, or it reports nothing. No archive changes.
 fn tell_of_archive<S: Alter, A: Archives>(
     alloc: Global,
     desk: &Desk<S>,
@@ -392,6 +390,7 @@ fn tell_of_archive<S: Alter, A: Archives>(
     }
     match query {
         Query::Visits(_) | Query::Container(_) => tell_container(alloc, archives, place, query),
+        Query::Calls => tell_calls(alloc, archives, place, query),
         Query::Reply { partner, number } => {
             tell_number(alloc, desk, archives, place, query, partner, *number)
         }
@@ -427,6 +426,24 @@ fn tell_container<A: Archives>(
     let told = archives.report(alloc, place, query)?;
     let before = usize::from(place).saturating_sub(1);
     Ok(with_archives(alloc, told, before)?)
+}
+
+/// What the archive at a place reports of its lists, and how many archives are before it, if lists were put away with them:
+/// they were not looked at.
+fn tell_calls<A: Archives>(
+    alloc: Global,
+    archives: &mut A,
+    place: u16,
+    query: &Query,
+) -> Result<Option<String>, TableFault>
+    requires { query.now ≡ Calls }
+    ensures told { A.is_sound archives.new → IfOk result (λ found. (content : SetupContent) (list : List Archive) →
+        A.are list archives.old → IsPlace list place → TellsAsStore content list place Calls (option_map string_bytes found)) }
+    ensures same { (list : List Archive) → A.are list archives.old → A.are list archives.new }
+{
+    let told = archives.report(alloc, place, query)?;
+    let count = archives_with_lists(archives, usize::from(place).saturating_sub(1));
+    Ok(with_archives(alloc, told, count)?)
 }
 
 /// What is reported of a number: by the archive before that place which closed it, or by the archive at that place.

@@ -1,10 +1,10 @@
 ghost use Rattle.std.specs.Option.{option_and_then, option_map, unwrap_or};
-ghost use Rattle.std.specs.Prelude.{◌≡◌, ◌++◌, [], false, true, IfOk, List, length, map, string_bytes, None, Some, OnOk};
+ghost use Rattle.std.specs.Prelude.{◌≡◌, ◌≤◌, ◌++◌, [], Bool, IfOk, List, length, map, string_bytes, take, Some, OnOk};
 ghost use Rattle.edi_messages.specs.Owned.{call_content};
 ghost use Rattle.office_archives.specs.{Answering.AnswersClosed, Keeping.{IsClosedIn, IsKeptIn, IsReportIn, IsTicketIn}, Shelves.archive_at};
-ghost use Rattle.office_archives.specs.Telling.{HasListAway, TellsClosed, archives_line, with_archives};
+ghost use Rattle.office_archives.specs.Telling.{SaysIfAway, TellsClosed, archives_line, archives_with_lists, with_archives};
 ghost use Rattle.office_desk.specs.{Answers.answer_by_model, Noting.IsNow, Reports.partner_called};
-ghost use Rattle.office_parts.specs.{Away.lines_away, OwnLists.{ListName, list_name}, Archives.{Archive, archive_of, reply_by}};
+ghost use Rattle.office_parts.specs.{Away.lines_away, OwnLists.list_name, Archives.{Archive, archive_of, reply_by}};
 ghost use Rattle.office_replies.specs.Contents.{content_of};
 ghost use Rattle.office_rows.specs.Rows.{listing_content};
 ghost use Rattle.office_admission.specs.Setups.{setup_content};
@@ -74,11 +74,9 @@ pub trait Archives {
         ensures { (archives : List Archive) → are archives self.now → IsClosedIn archives partner number →
             archive_of archives partner number ≡ option_and_then (archive_at archives) result };
 
-    /// Whether lists were put away.
-    fn has_lists(&self) -> bool
-        ensures none { result ≡ false → (archives : List Archive) → are archives self.now → (list : ListName) →
-            lines_away archives list ≡ None }
-        ensures some { result ≡ true → (archives : List Archive) → are archives self.now → HasListAway archives };
+    /// Whether lists were put away with the first so many.
+    fn has_lists(&self, count: usize) -> bool
+        ensures { (archives : List Archive) → are archives self.now → SaysIfAway (take count archives) result };
 
     /// The lines of the list of a call as they were put away last, if they ever were.
     ///
@@ -212,6 +210,17 @@ pub(crate) fn with_archives(
     let mut text = text_of(alloc, told);
     push_count(alloc, &mut text, count)?;
     Ok(Some(text))
+}
+
+/// How many of the first so many archives are told of as not looked at: all, if lists were put away with them, or none.
+pub(crate) fn archives_with_lists<A: Archives>(archives: &A, count: usize) -> usize
+    ensures { (list : List Archive) → A.are list archives.now → count ≤ length list → (put_away : Bool)
+        × SaysIfAway (take count list) put_away × (result ≡ archives_with_lists (take count list) put_away) }
+{
+    if !archives.has_lists(count) {
+        return 0;
+    }
+    count
 }
 
 /// The text, or an empty one.

@@ -26,7 +26,7 @@ pub(crate) fn bring_back_named<S: Alter + Drop, A: Archives>(
     ensures brings { (text : List ℕ) → IsAdmitted desk.old.setup text admitted.now →
         BringsTogether S.Store A.are desk.old archives.now (named_by desk.old admitted.now.partner text) result desk.new }
 {
-    if !archives.has_lists() {
+    if !archives.has_lists(archives.count()) {
         return Ok(());
     }
     let lists = lists_named(alloc, desk.setup(), admitted)?;

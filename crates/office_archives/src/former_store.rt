@@ -85,7 +85,7 @@ pub(crate) fn closed_before(
     Ok(earlier.closed(alloc)?)
 }
 
-/// The register of the store as that archive was closed, without lists and what had been taken.
+/// The archives and segments of the register of the store as that archive was closed.
 fn register_before(alloc: Global, register: &Register, place: u16) -> Result<Register, AllocError>
     ensures { IfOk result (λ earlier.
         register_content earlier ≡ register_before place (register_content register.now)) }
@@ -97,6 +97,7 @@ fn register_before(alloc: Global, register: &Register, place: u16) -> Result<Reg
         segments,
         lists: Vec::new(alloc),
         taken: Vec::new(alloc),
+        sealed: Vec::new(alloc),
         closed_for: None,
     })
 }

@@ -22,7 +22,7 @@ mod writing;
 pub use archived_desk::ArchivedDesk;
 pub use archives::{Archives, answer_closed};
 pub use looked::{Looked, LookedStore};
-pub use many_archives::{ManyArchives, Shelf};
+pub use many_archives::{ManyArchives, NO_ARCHIVE, Shelf};
 pub use opened::Opened;
 pub use passing::Rest;
 pub use texts::write_journal;

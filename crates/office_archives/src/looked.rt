@@ -4,7 +4,7 @@ use crate::former_store::{report_by, ticket_by};
 use crate::passing::Rest;
 use crate::writing::write_part;
 use office_admission::Setup;
-use office_closing::{Register, read_register};
+use office_closing::{Register, has_seal_of, has_seals, read_register};
 use office_desk::{Beside, Desk, load_beside};
 use office_loading::Closed;
 use office_replies::Port;
@@ -23,7 +23,7 @@ pub struct Looked<S: Alter> {
 }
 
 impl<S: Alter> Looked<S> {
-    ghost use Rattle.std.specs.Prelude.{⊤, IfErr, IfOk, IsTrue, option_map, string_bytes};
+    ghost use Rattle.std.specs.Prelude.{◌↔◌, ⊤, true, IfErr, IfOk, IsTrue, option_map, string_bytes};
     ghost use Rattle.sqlite.specs.Held.{state};
     ghost use Rattle.sqlite.specs.State.{HasCleanDisk};
     ghost use Rattle.office_archives.specs.Loading.{Loads};
@@ -31,6 +31,7 @@ impl<S: Alter> Looked<S> {
     ghost use Rattle.office_archives.specs.Parts.{LeavesPort, WritesPart};
     ghost use Rattle.office_archives.specs.Texts.{HasInOrder};
     ghost use Rattle.office_closing.specs.Register.{RegisterContent, register_content};
+    ghost use Rattle.office_closing.specs.Seals.{HasSealOf, HasSeals};
     ghost use Rattle.office_closing.specs.Sound.{IsSound, is_sound};
     ghost use Rattle.office_closing.specs.Stored.{HasRegister};
     ghost use Rattle.office_history.specs.After.{AreKeptOnce};
@@ -79,6 +80,48 @@ impl<S: Alter> Looked<S> {
         let is_idle = self.conn.is_autocommit();
         prove!(is_idle);
         read_register(alloc, &mut self.conn)
+    }
+
+    /// Whether it keeps all that a register has sealed with the archive at a place; also if the register has no seals of that.
+    ///
+    /// Damaged if a reply is no text; Store and Memory say nothing of the rows.
+    pub fn has_seals(
+        &mut self,
+        alloc: Global,
+        register: &Register,
+        place: u16,
+    ) -> Result<bool, TableFault>
+        ensures has { HasCleanDisk (state S.Store self.new.conn) → IsTrue (state S.Store self.new.conn).is_open →
+            IfOk result (λ has. (rows : Rows) → HasRows rows (state S.Store self.old.conn).committed →
+            AreKeptOnce rows.interchanges → (has ≡ true) ↔ HasSeals (register_content register.now) place rows) }
+        ensures reads { OnlyReads (state S.Store self.old.conn) (state S.Store self.new.conn) result }
+    {
+        let is_idle = self.conn.is_autocommit();
+        prove!(is_idle);
+        has_seals(alloc, &mut self.conn, register, place)
+    }
+
+    /// Whether it keeps what a register has sealed together with a partner's number, with the archive at a place; also if the
+    /// register has no seals of that.
+    ///
+    /// Damaged if a reply is no text; Store and Memory say nothing of the rows.
+    pub(crate) fn has_seal_of(
+        &mut self,
+        alloc: Global,
+        register: &Register,
+        place: u16,
+        partner: u16,
+        number: u32,
+    ) -> Result<bool, TableFault>
+        ensures has { HasCleanDisk (state S.Store self.new.conn) → IsTrue (state S.Store self.new.conn).is_open →
+            IfOk result (λ has. (rows : Rows) → HasRows rows (state S.Store self.old.conn).committed →
+            AreKeptOnce rows.interchanges →
+            (has ≡ true) ↔ HasSealOf (register_content register.now) place partner number rows) }
+        ensures reads { OnlyReads (state S.Store self.old.conn) (state S.Store self.new.conn) result }
+    {
+        let is_idle = self.conn.is_autocommit();
+        prove!(is_idle);
+        has_seal_of(alloc, &mut self.conn, register, place, partner, number)
     }
 
     /// The interchange that is kept for a partner and a number.

@@ -6,4 +6,6 @@ use sqlite::Alter;
 pub struct Opened<S: Alter> {
     pub(crate) place: u16,
     pub(crate) archive: Looked<S>,
+    // Whether all its seals were found right since it was opened.
+    pub(crate) is_sealed: bool,
 }

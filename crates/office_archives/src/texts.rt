@@ -6,7 +6,7 @@ ghost use Rattle.office_closing.specs.{Register.{archive_content, register_conte
 ghost use Rattle.sqlite.specs.Held.{state};
 
 use crate::former_store::closed_before;
-use crate::many_archives::Shelf;
+use crate::many_archives::{NO_ARCHIVE, Shelf};
 use crate::{Rest, write_part};
 use office_closing::Register;
 use office_replies::Port;
@@ -96,5 +96,13 @@ fn write_archive<T: Alter + Drop, F: Shelf<T>, W: Write>(
     let before = closed_before(alloc, register, place)?;
     let after = closed_before(alloc, register, next)?;
     let mut archive = shelf.open(register, place)?;
+    let passes = shelf.passes(&mut archive, register, place)?;
+    if !passes {
+        return Err(TableFault::Store(NO_ARCHIVE));
+    }
+    let has = archive.has_seals(alloc, register, place)?;
+    if !has {
+        return Err(TableFault::Store(NO_ARCHIVE));
+    }
     archive.write_part(alloc, &before, &after, rest, writer)
 }

@@ -21,11 +21,11 @@ use Rattle.office_parts.proofs.Splits.{has_contained, contained_has, has_left, h
 use Rattle.office_closing.specs.{Deleting.{Deletes, without_interchange, without_visits, Becomes}, Clearing.{IsCleared, IsPartlyCleared, StoresLeft, Clears}}
 use Rattle.office_closing.specs.{declared.visits.VisitFault.VisitFault, declared.visits.VisitFault.TheVariants.Differs, Going.AreDone, Changes.unmarked}
 use Rattle.office_closing.specs.{Visits.{AreAlike, AreToGo, GoesBelow, IsCauseOf, IsOtherwiseOver}, Lists.{SettledListContent, list_content}}
-use Rattle.office_closing.specs.{Register.{ArchiveContent, RegisterContent}, declared.faults.CloseFault.CloseFault, declared.planning.ClosingLists.ClosingLists}
-use Rattle.office_closing.specs.{declared.planning.History.History, declared.planning.Plan.Plan, declared.planning.Stage.Stage}
-use Rattle.office_closing.specs.Copies.{AreDoneIn, ComesOn, FileNames, GoWith, HasCome, IsOfStore as AreOfStore, OfficeContent, archive_in, lists_at, segments_in, taken_at}
-use Rattle.office_closing.{specs.declared.register.Segment.Segment, proofs.FoundLemmas.{list_tied, listings_by}}
-use Rattle.office_closing.specs.Planning.{AreClosingLists, AreFor, AreInBoth, IsHistory, IsPlan, IsPlanOf, IsRefused, IsRefusedWith, IsTakenFor}
+use Rattle.office_closing.specs.{Register.{SealedContent, sealed_content, ArchiveContent, RegisterContent}, declared.faults.CloseFault.CloseFault}
+use Rattle.office_closing.specs.{declared.planning.ClosingLists.ClosingLists, declared.planning.History.History, declared.planning.Plan.Plan}
+use Rattle.office_closing.{specs.{declared.planning.Stage.Stage, declared.register.Segment.Segment}, proofs.FoundLemmas.{list_tied, listings_by}}
+use Rattle.office_closing.specs.Copies.{AreDoneIn, ComesOn, FileNames, GoWith, HasCome, IsOfStore as AreOfStore, OfficeContent, archive_in, lists_at, sealed_at, segments_in, taken_at}
+use Rattle.office_closing.specs.Planning.{AreClosingLists, AreFor, AreInBoth, IsHistory, IsPlan, IsPlanOf, IsRefused, IsRefusedWith, IsSealedFor, IsTakenFor}
 use Rattle.sqlite_trees.specs.declared.store.Store.{Ghosts}
 use Rattle.office_tables.{specs.{Faults.IsOfStore, declared.table_fault.TableFault.TableFault, Writing.IsUndone}, proofs.WritesLemmas.survives_here}
 use Rattle.office_tables.proofs.WriteLemmas.{on_failed}
@@ -418,6 +418,14 @@ module _ (own copy : OfficeContent) (names : FileNames) (place : ℕ) (taken : L
   taken_come with_ stage.Raised has =
       for.other (λ same. one_longer copy.register.archives (archive_in names.archive copy) (ap (λ (c : RegisterContent). c.archives) has.0 ∙ sym (ap (λ (c : RegisterContent). c.archives) same)))
 
+module _ (own copy : OfficeContent) (names : FileNames) (place : ℕ) (sealed : List SealedContent) (unclosed : own.register.closed_for ≡ None) (for : IsSealedFor own copy place sealed) where
+  -- what is sealed at a stage that the closing has come to, as yet without seals
+  pub sealed_come : (with_ : List SettledListContent) (come : Stage) → HasCome own copy names with_ come → sealed ≡ sealed_at own place [] come
+  sealed_come with_ stage.New has = for.same (has.0 ∙ (λ i. record own.register { closed_for = unclosed i }))
+  sealed_come with_ stage.Marked has = for.same (has.0 ∙ (λ i. record own.register { closed_for = unclosed i }))
+  sealed_come with_ stage.Raised has =
+      for.other (λ same. one_longer copy.register.archives (archive_in names.archive copy) (ap (λ (c : RegisterContent). c.archives) has.0 ∙ sym (ap (λ (c : RegisterContent). c.archives) same)))
+
 -- ---- what a plan has of lists
 
 -- the registers are asked with lists in memory
@@ -456,7 +464,7 @@ done_with [] lines named archive found some go = absurd (some refl)
 done_with (segment ∷ segments) lines named archive found some go = go
 
 pub plan_from : (own copy : OfficeContent) (names : FileNames) (named : List ListName) (history : History) (lists : ClosingLists) (come : Stage) (plan : Plan) → AreOfStore own copy → IsHistory own copy names.archive history
-    → AreClosingLists own copy named (segments_in names.archive copy) (archive_in names.archive copy).place lists → ComesOn own copy names (map list_content lists.all.items) come → IsPlanOf history lists come plan → IsPlan own copy names named plan
+    → AreClosingLists own copy named (segments_in names.archive copy) (archive_in names.archive copy).place lists → ComesOn own copy names (map list_content lists.all.items) come → IsPlanOf history lists come plan → IsPlan own copy names named [] plan
 plan_from own copy names named history lists come plan of_store closes put comes is =
     let place = (archive_in names.archive copy).place in
     let all = map list_content lists.all.items in
@@ -482,6 +490,9 @@ plan_from own copy names named history lists come plan of_store closes put comes
       taken =
           is.taken ∙ taken_come own copy names place history.taken.items of_store.unclosed closes.taken all come comes.has_come
           ∙ ap (taken_at own place) (sym is.stage);
+      sealed =
+          ap (map sealed_content) is.sealed ∙ sealed_come own copy names place (map sealed_content history.sealed.items) of_store.unclosed closes.sealed all come comes.has_come
+          ∙ ap (sealed_at own place []) (sym is.stage);
     }
 
 pub refused_with : (own copy : OfficeContent) (names : FileNames) (named : List ListName) (done : List SettledListContent) → AreDoneIn own.terminal named (segments_in names.archive copy) (archive_in names.archive copy).place done → (why : CloseFault) → IsRefusedWith own copy names done why → IsRefused own copy names why
@@ -490,6 +501,7 @@ refused_with own copy names named done are (fault.Archive refusal.Closed) is = a
 refused_with own copy names named done are (fault.Archive refusal.Office) is = absurd is
 refused_with own copy names named done are (fault.Archive refusal.Later) is = absurd is
 refused_with own copy names named done are (fault.Archive refusal.Order) is = absurd is
+refused_with own copy names named done are (fault.Archive refusal.Seals) is = absurd is
 refused_with own copy names named done are (fault.Archive (refusal.Visit number)) is = absurd is
 refused_with own copy names named done are (fault.Archive (refusal.Interchange difference)) is = absurd is
 refused_with own copy names named done are (fault.File of) is = absurd is

@@ -5,13 +5,13 @@ use Rattle.sqlite.{specs.{Effect.Database, State.{State, KeepsCommit, Survives},
 use Rattle.office_rows.specs.{Stored.HasRows, Effects.is_pair, Opened.{NumberKept, OpenedRows}, Rows.{Interchange, Rows}}
 use Rattle.office_tables.specs.declared.table_fault.TableFault.{TableFault}
 use Rattle.office_closing.specs.{Changes.{closed_with, marked_for, unchanged, unmarked}, Lists.{list_content, SettledListContent}, Stored.HasRegister}
-use Rattle.office_closing.specs.{Register.{archive_content, RegisterContent, closed_by, newest_visit}, declared.faults.CloseFault.CloseFault, Clearing.Clears}
-use Rattle.office_closing.specs.{declared.planning.Plan.Plan, declared.planning.PutAway.PutAway, Copies.FileNames, Judging.{AreResting, IsJudged, IsResting}}
+use Rattle.office_closing.specs.{Register.{archive_content, RegisterContent, closed_by, newest_visit, sealed_content}, declared.faults.CloseFault.CloseFault}
+use Rattle.office_closing.specs.{declared.planning.Plan.Plan, declared.planning.PutAway.PutAway, Clearing.Clears, Copies.FileNames, Refusing.IsFileOf}
 use Rattle.office_closing.specs.Closes.{AreHeld, AreInTheirOrder, ArePutAway, HasItsTexts, IsOfClosing, Closes, Closing, HasArchive, Held, IsBeforehand, IsMarkedNow, IsLeft, StoresLeftRows, StoresMarked, StoresRaised, Tells, cleared, closing_content, AreOfSetup, PutsAway}
-use Rattle.office_closing.specs.{Files.{AreClean, AreIdle, AreRead, Files, IsRead}, Refusing.IsFileOf, Steps.{IsOfWriting, StepsIf, is_unmarked, is_unraised}}
-use Rattle.office_closing.{specs.{Going.{MayGo, lines_on, name_of}, DoneListLaws.KeepLines, Deleting.is_one_of}, proofs.TextLemmas.one_list}
+use Rattle.office_closing.specs.{Files.{AreClean, AreIdle, AreRead, Files, IsRead}, Judging.{AreResting, IsJudged, IsResting}, Going.{MayGo, lines_on, name_of}}
+use Rattle.office_closing.specs.{Steps.{IsOfWriting, StepsIf, is_unmarked, is_unraised}, DoneListLaws.KeepLines, Deleting.is_one_of}
 use Rattle.office_closing.{specs.PuttingAway.{AreNamedThen, ListsThatGoAreAway, Stands}, proofs.PlanLemmas.{beyond_is_above, of_store_there, written_tells}}
-use Rattle.office_closing.proofs.DoneAwayLemmas.{put_away}
+use Rattle.office_closing.proofs.{TextLemmas.one_list, DoneAwayLemmas.put_away}
 use Rattle.sqlite_rules.proofs.ListLemmas.{contains_had, has_contained, has_filtered, has_found, has_kept, has_left, has_right, some_from, some_has}
 use Rattle.terminal_core.{specs.State.TerminalState, proofs.Lined.{same_key, tied_self}}
 use Rattle.office_admission.specs.{Accounts.content_after, Setups.SetupContent}
@@ -99,7 +99,7 @@ module _ (names : FileNames) (old mid : Files) (plan : Plan) (rests : AreResting
   MarkSteps end result = StepsIf (is_unmarked plan.stage) unmarked (marked_for names.store) mid.archive_register end result
 
   abbrev RaiseSteps : {X : Type 0} → State → Result X CloseFault → Type 0
-  RaiseSteps end result = StepsIf (is_unraised plan.stage) unchanged (closed_with (archive_content plan.archive) plan.segments.items (map list_content plan.lists.items) plan.taken.items) mid.register end result
+  RaiseSteps end result = StepsIf (is_unraised plan.stage) unchanged (closed_with (archive_content plan.archive) plan.segments.items (map list_content plan.lists.items) plan.taken.items (map sealed_content plan.sealed.items)) mid.register end result
 
   mid_idle : AreIdle mid
   mid_idle = idle_after old mid (Ok plan) idle read

@@ -7,10 +7,11 @@ use Rattle.sqlite.{specs.{Command.TheVariants.Select, Listing.{understood, reads
 use Rattle.office_rows.specs.{Steps.Turns, Stored.{HasEmpty, columns_of}, Tables.no_schema, Shown.{columns_at, ShowsTable}}
 use Rattle.office_rows.proofs.{Creating.{keep_then, quiet_then, on_ok}, Listed.{unmapped, sorted_as}, WriteLemmas.{rows_of, passes, answer_in_order}}
 use Rattle.office_tables.{specs.declared.table_fault.TableFault.TableFault, proofs.WritesLemmas.survives_here}
-use Rattle.office_closing.specs.{declared.register.Segment.Segment, Changes.{empty_register, unchanged, with_segments, with_lists, with_taken}}
-use Rattle.office_closing.specs.{Lists.{SettledListContent, put_list, put_lists}, Register.RegisterContent, Stored.{HasRegister, HasWhole, StoresRegister}}
-use Rattle.office_closing.specs.Tables.{register_tables, archive_table, segment_table, closed_for_table, settled_table, taken_table, Layout, register_schema, schema_in, has_table}
-use Rattle.office_closing.specs.Transactions.{Holding, Steps, Writes, WritesTo, WritesIfOpen, IsMade, HasBecome}
+use Rattle.office_closing.specs.{declared.register.Segment.Segment, Changes.{empty_register, unchanged, with_segments, with_lists, with_taken, with_sealed}}
+use Rattle.office_closing.specs.{Lists.{SettledListContent, put_list, put_lists}, Register.{RegisterContent, SealedContent}}
+use Rattle.office_closing.specs.Stored.{HasRegister, HasWhole, StoresRegister}
+use Rattle.office_closing.specs.Tables.{register_tables, archive_table, segment_table, closed_for_table, settled_table, taken_table, sealed_table, Layout, register_schema, schema_in, has_table}
+use Rattle.office_closing.specs.Transactions.{Holding, Steps, StepsTo, Writes, WritesTo, WritesIfOpen, IsMade, HasBecome}
 use Rattle.sqlite_resolve.specs.declared.error.CompileError.{CompileError}
 use Rattle.sqlite_trees.proofs.ListLemmas.{map-map, filter_all, all_of}
 use Rattle.sqlite_value.specs.{Keys.ascending, declared.keys.Key.Key}
@@ -19,7 +20,7 @@ use Rattle.office_closing.proofs.WriteTexts as texts
 
 -- the trees of a database that has the register store it
 pub stores : (content : RegisterContent) (db : Database) → HasWhole content db → StoresRegister content db.trees
-stores content db has = record { schema = refl; listed = has.listed; archives = has.archives; segments = has.segments; closed_for = has.closed_for; lists = has.lists; taken = has.taken }
+stores content db has = record { schema = refl; listed = has.listed; archives = has.archives; segments = has.segments; closed_for = has.closed_for; lists = has.lists; taken = has.taken; sealed = has.sealed }
 
 -- ---- inside
 
@@ -42,12 +43,12 @@ pub writes_of : {T : Type 0} (Has : Holding) (from to : RegisterContent → Regi
 writes_of Has = writes_to_of Has HasWhole
 
 -- a table is there, and then another
-pub writes_through : {X Y : Type 0} (Has Then : Holding) (a b c : State) (x : X) (result : Result Y TableFault) → WritesTo Has Then unchanged unchanged a b (Ok x) → Writes Then unchanged unchanged b c result → Writes Has unchanged unchanged a c result
-writes_through Has Then a b c x result p q = record {
+pub writes_through : {X Y : Type 0} (Has Then Last : Holding) (a b c : State) (x : X) (result : Result Y TableFault) → WritesTo Has Then unchanged unchanged a b (Ok x) → WritesTo Then Last unchanged unchanged b c result → WritesTo Has Last unchanged unchanged a c result
+writes_through Has Then Last a b c x result p q = record {
   steps = λ clean inside.
       let early : HasCleanDisk b = omega (arith, q.survives.clean) in
       let first = p.steps early inside in
-      on_ok result (λ (second : Steps Then unchanged unchanged b c). record {
+      on_ok result (λ (second : StepsTo Then Last unchanged unchanged b c). record {
         register = λ content has. second.register content (first.register content has);
         inside = second.inside;
         committed = second.committed ∙ first.committed;
@@ -158,6 +159,12 @@ none_taken content = ap (λ l. record content { taken = l }) (append-nil content
 pub one_more_taken : (before after : List Segment) (one : Segment) → after ≡ before ++ one ∷ [] → (content : RegisterContent) → with_taken (one ∷ []) (with_taken before content) ≡ with_taken after content
 one_more_taken before after one is content = ap (λ l. record content { taken = l }) (append_assoc content.taken before (one ∷ []) ∙ ap (λ l. content.taken ++ l) (sym is))
 
+pub none_sealed : (content : RegisterContent) → with_sealed [] content ≡ content
+none_sealed content = ap (λ l. record content { sealed = l }) (append-nil content.sealed)
+
+pub one_more_sealed : (before after : List SealedContent) (one : SealedContent) → after ≡ before ++ one ∷ [] → (content : RegisterContent) → with_sealed (one ∷ []) (with_sealed before content) ≡ with_sealed after content
+one_more_sealed before after one is content = ap (λ l. record content { sealed = l }) (append_assoc content.sealed before (one ∷ []) ∙ ap (λ l. content.sealed ++ l) (sym is))
+
 pub put_more : (before : List SettledListContent) (one : SettledListContent) (lists : List SettledListContent) → put_lists (before ++ one ∷ []) lists ≡ put_list one (put_lists before lists)
 put_more [] one lists = refl
 put_more (l ∷ before) one lists = put_more before one (put_list l lists)
@@ -221,8 +228,11 @@ module _ (old new : State) (layout : Layout) (has : old.now.schema ≡ schema_in
 pub lists_settled : (old new : State) (layout : Layout) → has_table later.Lists layout ≡ true → old.now.schema ≡ schema_in layout → (answer : List Row) → Shown texts.select_settled [] old new answer → ShowsTable settled_table (0 ∷ 1 ∷ 2 ∷ 3 ∷ 4 ∷ []) (0 ∷ 1 ∷ 2 ∷ 3 ∷ []) old.now answer
 lists_settled old new layout there has answer = lists old new (schema_in layout) has answer settled_table texts.select_settled texts.select_settled_shown texts.select_settled_order texts.select_settled_names (0 ∷ 1 ∷ 2 ∷ 3 ∷ 4 ∷ []) (0 ∷ 1 ∷ 2 ∷ 3 ∷ []) (texts.select_settled_is layout there) (texts.select_settled_plain layout there) (λ trees. refl) (λ r. refl) (λ r. refl) refl
 
-pub lists_taken : (old new : State) → old.now.schema ≡ register_schema → (answer : List Row) → Shown texts.select_taken [] old new answer → ShowsTable taken_table (0 ∷ 1 ∷ 2 ∷ []) (1 ∷ 0 ∷ []) old.now answer
-lists_taken old new has answer = lists old new register_schema has answer taken_table texts.select_taken texts.select_segment_shown texts.select_segment_order texts.select_segment_names (0 ∷ 1 ∷ 2 ∷ []) (1 ∷ 0 ∷ []) texts.select_taken_is texts.select_taken_plain (λ trees. refl) (λ r. refl) (λ r. refl) refl
+pub lists_taken : (old new : State) (layout : Layout) → has_table later.Taken layout ≡ true → old.now.schema ≡ schema_in layout → (answer : List Row) → Shown texts.select_taken [] old new answer → ShowsTable taken_table (0 ∷ 1 ∷ 2 ∷ []) (1 ∷ 0 ∷ []) old.now answer
+lists_taken old new layout there has answer = lists old new (schema_in layout) has answer taken_table texts.select_taken texts.select_segment_shown texts.select_segment_order texts.select_segment_names (0 ∷ 1 ∷ 2 ∷ []) (1 ∷ 0 ∷ []) (texts.select_taken_is layout there) (texts.select_taken_plain layout there) (λ trees. refl) (λ r. refl) (λ r. refl) refl
+
+pub lists_sealed : (old new : State) → old.now.schema ≡ register_schema → (answer : List Row) → Shown texts.select_sealed [] old new answer → ShowsTable sealed_table (0 ∷ 1 ∷ 2 ∷ []) (0 ∷ []) old.now answer
+lists_sealed old new has answer = lists old new register_schema has answer sealed_table texts.select_sealed texts.select_archive_shown texts.select_archive_order texts.select_sealed_names (0 ∷ 1 ∷ 2 ∷ []) (0 ∷ []) texts.select_sealed_is texts.select_sealed_plain (λ trees. refl) (λ r. refl) (λ r. refl) refl
 
 -- Where there are no tables nothing is shown.
 pub lists_nothing : (old new : State) (sql : List ℕ) (e : CompileError) → understood no_schema sql ≡ Err e → old.now.schema ≡ no_schema → (answer : List Row) → Shown sql [] old new answer → ⊥

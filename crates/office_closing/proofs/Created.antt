@@ -1,10 +1,7 @@
 -- What each statement that makes a table makes of an empty database.
-use Rattle.std.specs.List.{list_all}
-use Rattle.std.proofs.lemmas.Bool.{cases_Bool, and_parts}
-use Rattle.std.proofs.lemmas.Bool.Decides.{nat_tests}
+use Rattle.std.{specs.List.list_all, proofs.{lemmas.Bool.{cases_Bool, and_parts}, lemmas.Bool.Decides.nat_tests, lemmas.List.Recursion.{and_at, max_push}}}
 use Rattle.std.proofs.Common.{◌≡◌, ℕ, List, [], ◌∷◌, None, Ok, false, ap, sym, subst, ◌∙◌, zero, suc, ◌+◌, ◌<◌, ◌==◌, ◌&&◌, ◌++◌, inl, inr, true, length, take, drop, set, get_or, max, nat_le, nat_lt, if◌then◌else◌, refl, ap₂, add-one, arith, Some, fold}
-use Rattle.std.proofs.{lemmas.List.{take_more, get_or-set_same, get_or-set_other}, lemmas.List.Recursion.{and_at, max_push}, Math.Seq.drop-cons}
-use Rattle.std.proofs.lemmas.Slice.Eq.{bytes_eq-Decides}
+use Rattle.std.proofs.{lemmas.List.{take_more, get_or-set_same, get_or-set_other}, Math.Seq.drop-cons, lemmas.Slice.Eq.bytes_eq-Decides}
 use Rattle.sqlite.specs.{Effect.{Database, IsDatabase}, Schema.Schema, Table.Table, Does.{Tally, lacks_sequence}, Command.TheVariants.{CreateTable, Nothing}}
 use Rattle.sqlite.specs.{State.{State, Executes, Writes}, Compile.table_defined_by, Listing.understood}
 use Rattle.sqlite.proofs.Callers.{IsPlain, command_of, statement_of, runs_as}
@@ -12,8 +9,8 @@ use Rattle.sqlite_catalog.specs.{Change.{created, next_tree, KeepsRows}, Listing
 use Rattle.sqlite_trees.specs.Objects.{catalog_tree}
 use Rattle.office_rows.{specs.{Stored.{Holds, HasEmpty}, Tables.schema_of}, proofs.{WriteLemmas.{went, same_value}, Reading.nothing_held}}
 use Rattle.office_closing.specs.{Changes.empty_register, Register.{RegisterContent, is_of, last_closed}, declared.register.Segment.Segment}
-use Rattle.office_closing.specs.Stored.{HasRegister, HasRegisterIn, HasListed, HasWhole, archive_values, segment_values, file_values, list_values, if_any}
-use Rattle.office_closing.specs.Tables.{archive_table, segment_table, closed_for_table, settled_table, taken_table, Layout, older, former, whole, register_tables, older_schema, former_schema, register_schema}
+use Rattle.office_closing.specs.Stored.{HasRegister, HasRegisterIn, HasListed, HasTaken, HasWhole, archive_values, segment_values, file_values, list_values, sealed_values, if_any}
+use Rattle.office_closing.specs.Tables.{archive_table, segment_table, closed_for_table, settled_table, taken_table, sealed_table, Layout, older, former, unsealed, whole, register_tables, older_schema, former_schema, unsealed_schema, register_schema}
 use Rattle.office_closing.specs.{Sound.{is_within, close_more}, Lists.{SettledListContent, is_of_list, lines_of_list}}
 use Rattle.office_admission.specs.Limits.{most_partners}
 use Rattle.edi_messages.specs.Purposes.{CallContent}
@@ -24,7 +21,7 @@ use Rattle.office_closing.proofs.WriteTexts as texts
 pub listed_by : {schema : Schema} (db : Database) → db.schema ≡ schema → IsDatabase db → Lists (db.trees catalog_tree) schema
 listed_by db is sound = subst (Lists (db.trees catalog_tree)) is sound.lists
 
--- the five tables, each empty, are the register of a store of which nothing was put away
+-- the six tables, each empty, are the register of a store of which nothing was put away
 nothing_registered : (db : Database) → HasEmpty register_tables db → Lists (db.trees catalog_tree) register_schema → HasWhole empty_register db
 nothing_registered db has listed = record {
   schema = has.schema;
@@ -34,6 +31,7 @@ nothing_registered db has listed = record {
   closed_for = nothing_held (db.trees 4) has.empty.1.1.0;
   lists = nothing_held (db.trees 6) has.empty.1.1.1.0;
   taken = nothing_held (db.trees 8) has.empty.1.1.1.1.0;
+  sealed = nothing_held (db.trees 10) has.empty.1.1.1.1.1.0;
 }
 
 -- one more table is there, empty, and the others are as they were
@@ -125,10 +123,15 @@ module _ (old new : State) (count : ℕ) where
       let it = adds older_schema former_schema settled_table refl refl has.schema texts.create_settled texts.create_settled_is texts.create_settled_plain texts.settled_defined h in
       record { schema = it.schema; empty = (it.kept.0 ∙ has.empty.0, (it.kept.1.0 ∙ has.empty.1.0, (it.kept.1.1.0 ∙ has.empty.1.1.0, (it.empty, tt)))) }
 
-  pub created_taken : HasEmpty (archive_table ∷ segment_table ∷ closed_for_table ∷ settled_table ∷ []) old.now → Executes texts.create_taken [] old new (Ok count) → HasWhole empty_register new.now
+  pub created_taken : HasEmpty (archive_table ∷ segment_table ∷ closed_for_table ∷ settled_table ∷ []) old.now → Executes texts.create_taken [] old new (Ok count) → HasEmpty (archive_table ∷ segment_table ∷ closed_for_table ∷ settled_table ∷ taken_table ∷ []) new.now
   created_taken has h =
-      let it = adds former_schema register_schema taken_table refl refl has.schema texts.create_taken texts.create_taken_is texts.create_taken_plain texts.taken_defined h in
-      nothing_registered new.now (record { schema = it.schema; empty = (it.kept.0 ∙ has.empty.0, (it.kept.1.0 ∙ has.empty.1.0, (it.kept.1.1.0 ∙ has.empty.1.1.0, (it.kept.1.1.1.0 ∙ has.empty.1.1.1.0, (it.empty, tt))))) }) it.listed
+      let it = adds former_schema unsealed_schema taken_table refl refl has.schema texts.create_taken texts.create_taken_is texts.create_taken_plain texts.taken_defined h in
+      record { schema = it.schema; empty = (it.kept.0 ∙ has.empty.0, (it.kept.1.0 ∙ has.empty.1.0, (it.kept.1.1.0 ∙ has.empty.1.1.0, (it.kept.1.1.1.0 ∙ has.empty.1.1.1.0, (it.empty, tt))))) }
+
+  pub created_sealed : HasEmpty (archive_table ∷ segment_table ∷ closed_for_table ∷ settled_table ∷ taken_table ∷ []) old.now → Executes texts.create_sealed [] old new (Ok count) → HasWhole empty_register new.now
+  created_sealed has h =
+      let it = adds unsealed_schema register_schema sealed_table refl refl has.schema texts.create_sealed texts.create_sealed_is texts.create_sealed_plain texts.sealed_defined h in
+      nothing_registered new.now (record { schema = it.schema; empty = (it.kept.0 ∙ has.empty.0, (it.kept.1.0 ∙ has.empty.1.0, (it.kept.1.1.0 ∙ has.empty.1.1.0, (it.kept.1.1.1.0 ∙ has.empty.1.1.1.0, (it.kept.1.1.1.1.0 ∙ has.empty.1.1.1.1.0, (it.empty, tt)))))) }) it.listed
 
   completed_lists_in : (layout : Layout) (content : RegisterContent) → HasRegisterIn layout content old.now → Executes texts.complete_settled [] old new (Ok count) → HasListed content new.now
   completed_lists_in older content has h =
@@ -141,23 +144,27 @@ module _ (old new : State) (count : ℕ) where
         closed_for = subst (Holds closed_for_table file_values (if_any content.closed_for)) (sym it.kept.1.1.0) has.closed_for;
         lists = subst (λ l. Holds settled_table list_values l (new.now.trees 6)) (sym has.lists) (nothing_held (new.now.trees 6) it.empty);
         taken = has.taken;
+        sealed = has.sealed;
       })
   completed_lists_in former content has h =
       let ran = runs_as texts.complete_settled [] old new former_schema has.schema Nothing texts.settled_there texts.settled_there_plain count h in
       inl (subst (HasRegisterIn former content) (sym ran.0.0.now_is) has)
+  completed_lists_in unsealed content has h =
+      let ran = runs_as texts.complete_settled [] old new unsealed_schema has.schema Nothing texts.settled_kept texts.settled_kept_plain count h in
+      inr (inl (subst (HasRegisterIn unsealed content) (sym ran.0.0.now_is) has))
   completed_lists_in whole content has h =
       let ran = runs_as texts.complete_settled [] old new register_schema has.schema Nothing texts.completed_is texts.completed_plain count h in
-      inr (subst (HasWhole content) (sym ran.0.0.now_is) has)
+      inr (inr (subst (HasWhole content) (sym ran.0.0.now_is) has))
 
   -- whichever tables it had, it has that of lists
   pub completed_lists : (content : RegisterContent) → HasRegister content old.now → Executes texts.complete_settled [] old new (Ok count) → HasListed content new.now
   completed_lists content has h = completed_lists_in has.0 content has.1 h
 
-  -- and it has all five
-  pub completed_taken : (content : RegisterContent) → HasListed content old.now → Executes texts.complete_taken [] old new (Ok count) → HasWhole content new.now
+  -- and that of what had been taken
+  pub completed_taken : (content : RegisterContent) → HasListed content old.now → Executes texts.complete_taken [] old new (Ok count) → HasTaken content new.now
   completed_taken content (inl has) h =
-      let it = adds former_schema register_schema taken_table refl refl has.schema texts.complete_taken texts.complete_taken_is texts.complete_taken_plain texts.complete_taken_defined h in
-      record {
+      let it = adds former_schema unsealed_schema taken_table refl refl has.schema texts.complete_taken texts.complete_taken_is texts.complete_taken_plain texts.complete_taken_defined h in
+      inl (record {
         schema = it.schema;
         listed = it.listed;
         archives = subst (Holds archive_table archive_values content.archives) (sym it.kept.0) has.archives;
@@ -165,9 +172,31 @@ module _ (old new : State) (count : ℕ) where
         closed_for = subst (Holds closed_for_table file_values (if_any content.closed_for)) (sym it.kept.1.1.0) has.closed_for;
         lists = subst (Holds settled_table list_values content.lists) (sym it.kept.1.1.1.0) has.lists;
         taken = subst (λ l. Holds taken_table segment_values l (new.now.trees 8)) (sym has.taken) (nothing_held (new.now.trees 8) it.empty);
-      }
-  completed_taken content (inr has) h =
+        sealed = has.sealed;
+      })
+  completed_taken content (inr (inl has)) h =
+      let ran = runs_as texts.complete_taken [] old new unsealed_schema has.schema Nothing texts.taken_kept texts.taken_kept_plain count h in
+      inl (subst (HasRegisterIn unsealed content) (sym ran.0.0.now_is) has)
+  completed_taken content (inr (inr has)) h =
       let ran = runs_as texts.complete_taken [] old new register_schema has.schema Nothing texts.taken_there texts.taken_there_plain count h in
+      inr (subst (HasWhole content) (sym ran.0.0.now_is) has)
+
+  -- and all six
+  pub completed_sealed : (content : RegisterContent) → HasTaken content old.now → Executes texts.complete_sealed [] old new (Ok count) → HasWhole content new.now
+  completed_sealed content (inl has) h =
+      let it = adds unsealed_schema register_schema sealed_table refl refl has.schema texts.complete_sealed texts.complete_sealed_is texts.complete_sealed_plain texts.complete_sealed_defined h in
+      record {
+        schema = it.schema;
+        listed = it.listed;
+        archives = subst (Holds archive_table archive_values content.archives) (sym it.kept.0) has.archives;
+        segments = subst (Holds segment_table segment_values content.segments) (sym it.kept.1.0) has.segments;
+        closed_for = subst (Holds closed_for_table file_values (if_any content.closed_for)) (sym it.kept.1.1.0) has.closed_for;
+        lists = subst (Holds settled_table list_values content.lists) (sym it.kept.1.1.1.0) has.lists;
+        taken = subst (Holds taken_table segment_values content.taken) (sym it.kept.1.1.1.1.0) has.taken;
+        sealed = subst (λ l. Holds sealed_table sealed_values l (new.now.trees 10)) (sym has.sealed) (nothing_held (new.now.trees 10) it.empty);
+      }
+  completed_sealed content (inr has) h =
+      let ran = runs_as texts.complete_sealed [] old new register_schema has.schema Nothing texts.sealed_there texts.sealed_there_plain count h in
       subst (HasWhole content) (sym ran.0.0.now_is) has
 
 -- ==== LoopLemmas: Segments that a loop goes through, with the last closed number of each partner so far.
@@ -203,7 +232,7 @@ any_default (x ∷ xs) (suc i) a b h = any_default xs i a b (omega arith)
 higher : (m n : ℕ) → m < n → max m n ≡ n
 higher m n h = grind (arith, nat_tests)
 
-no_higher : (m : ℕ) → max m 0 ≡ m
+pub no_higher : (m : ℕ) → max m 0 ≡ m
 no_higher m = grind (arith, nat_tests)
 
 same_of : (m n : ℕ) → (m == n) ≡ true → m ≡ n

@@ -5,17 +5,17 @@ use Rattle.std.proofs.lemmas.Bool.{eqb-true, eq-eqb, le-leb, leb-true, lt-ltb, l
 use Rattle.std.proofs.lemmas.List.Elements.{Contains-append_cases, Contains-append_left, Contains-append_right}
 use Rattle.office_rows.specs.{Rows.{Interchange, Rows}, Stored.HasRows}
 use Rattle.office_history.specs.{After.{AreKeptOnce, reply_if_any, reply_in}, Cascade.text_in}
-use Rattle.office_tables.specs.{Answers.{IsKept, RepliesAs}, Faults.IsOfStoreOr, declared.interchanges.Kept.Kept, declared.table_fault.TableFault.TableFault}
+use Rattle.office_tables.specs.{Answers.{HasUnfitReply, IsKept, RepliesAs}, Faults.IsOfStoreOr, declared.interchanges.Kept.Kept, declared.table_fault.TableFault.TableFault}
 use Rattle.office_tables.specs.declared.table_fault.TableFault.TheVariants.{Store, Damaged, Version, Memory}
 use Rattle.office_tables.proofs.WriteLemmas.{none_kept, one_kept, no_text, text_kept}
 use Rattle.office_closing.specs.{declared.faults.File.File, declared.faults.FileFault.FileFault, declared.comparing.Numbers.Numbers, Planning.AreInBoth}
 use Rattle.office_closing.specs.Comparing.{kept_text, kept_reply, IsSameKept, IsToldAlike, IsComparedAs, HasUnfitAmong, IsOfEither, IsOfFile}
 use Rattle.office_closing.specs.{Deleting.{is_of, is_among, all_but, goes, is_one_of, with_visits_that, without_visits}, Stored.HasRegister, Copies.FileNames}
 use Rattle.office_closing.specs.{Lists.{SettledListContent, list_content}, Changes.{closed_with, marked_for, unchanged, unmarked}, Transactions.IsSettled}
-use Rattle.office_closing.specs.{Register.{RegisterContent, archive_content}, declared.faults.CloseFault.CloseFault, declared.planning.Plan.Plan}
-use Rattle.office_closing.specs.{declared.planning.Stage.Stage, Clearing.{Clears, IsWithoutSome, IsWithoutSomeLists, IsWithoutSomeVisits}}
+use Rattle.office_closing.specs.{Register.{RegisterContent, archive_content, sealed_content}, declared.faults.CloseFault.CloseFault}
+use Rattle.office_closing.specs.{declared.planning.Plan.Plan, declared.planning.Stage.Stage, Files.{AreClean, AreRead, Files}, Refusing.HasUnfit}
+use Rattle.office_closing.specs.{Clearing.{Clears, IsWithoutSome, IsWithoutSomeLists, IsWithoutSomeVisits}, Judging.{AreResting, IsJudged, IsResting}}
 use Rattle.office_closing.specs.Closes.{AreHeld, Closing, HasArchive, Held, IsAtStage, IsLeft, IsMarkedNow, StoresLeftRows, StoresMarked, StoresRaised, cleared, closing_content, raised_register}
-use Rattle.office_closing.specs.{Files.{AreClean, AreRead, Files}, Judging.{AreResting, IsJudged, IsResting}}
 use Rattle.office_closing.{specs.Steps.{IsAsBefore, StepsIf, is_unmarked, is_unraised}, proofs.ClearLemmas.{clears_failed, clears_then, clears_weaker}}
 use Rattle.office_closing.proofs.NumberLemmas.{lists_none, and_both, deleted_none, deleted_twice, or_parts, whole_is_some, whole_is_some_visits, with_all, with_both}
 use Rattle.sqlite.{specs.{Effect.Database, State.{State, HasCleanDisk, IsUnchanged, Survives}, Tree.Trees}, proofs.StateLemmas.survives_then}
@@ -122,8 +122,14 @@ module _ (before : List Numbers) (one : Numbers) (after : List Numbers) (is : af
       ap (λ l. is_among l partner number) whole ∙ list_any-append (is_of partner number) after behind
       ∙ ap (λ b. b || is_among behind partner number) (after_is ∙ or_right (is_among before partner number) (is_among (one ∷ []) partner number) e)
 
+pub unfit_one : (numbers : Numbers) (number : ℕ) (rows : Rows) → is_among (numbers ∷ []) numbers.partner number ≡ true → HasUnfitReply numbers.partner number rows → HasUnfitAmong (numbers ∷ []) rows
+unfit_one numbers number rows among unfit = record { partner = numbers.partner; number = number; among = among; unfit = unfit }
+
 pub unfit_of_all : (before : List Numbers) (one : Numbers) (after behind all : List Numbers) → after ≡ before ++ one ∷ [] → all ≡ after ++ behind → (rows : Rows) → HasUnfitAmong (one ∷ []) rows → HasUnfitAmong all rows
 unfit_of_all before one after behind all is whole rows it = record { partner = it.partner; number = it.number; among = among_all before one after is it.partner it.number behind all whole it.among; unfit = it.unfit }
+
+pub has_unfit : (numbers : List Numbers) (rows : Rows) → HasUnfitAmong numbers rows → HasUnfit rows
+has_unfit numbers rows unfit = (unfit.partner, unfit.number, unfit.unfit)
 
 pub compared_more : (before : List Numbers) (one : Numbers) (after : List Numbers) → after ≡ before ++ one ∷ [] → (own copy : Rows) → IsComparedAs before own copy None → IsComparedAs (one ∷ []) own copy None → IsComparedAs after own copy None
 compared_more before one after is own copy first second partner number e = elim (among_either before one after is partner number e) [
@@ -299,7 +305,7 @@ module _ (names : FileNames) (old mid : Files) (plan : Plan) (rests : AreResting
   -- ---- the store's register
 
   abbrev RaiseSteps : {X : Type 0} → State → Result X CloseFault → Type 0
-  RaiseSteps end result = StepsIf (is_unraised plan.stage) unchanged (closed_with (archive_content plan.archive) plan.segments.items (map list_content plan.lists.items) plan.taken.items) mid.register end result
+  RaiseSteps end result = StepsIf (is_unraised plan.stage) unchanged (closed_with (archive_content plan.archive) plan.segments.items (map list_content plan.lists.items) plan.taken.items (map sealed_content plan.sealed.items)) mid.register end result
 
   module _ {X : Type 0} (end : State) (result : Result X CloseFault) (steps : RaiseSteps end result) where
     pub raise_survives : (new : Files) → (HasCleanDisk end → AreClean mid) → (HasCleanDisk end → (held : Held) → AreHeld held old → IsMarkedNow held names new.archive_register) → Survives old.register end (StoresRaised names old new)

@@ -14,10 +14,11 @@ use Rattle.sqlite_trees.specs.Objects.{catalog_tree}
 use Rattle.sqlite_catalog.specs.Listing.{Lists}
 use Rattle.office_rows.{specs.{Stored.{Holds, columns_of}, Values.number_value}, proofs.Creating.{put_all_fresh, put_all_shaped}}
 use Rattle.office_rows.proofs.WriteLemmas.{went, same_value, cast_null, cast_int}
-use Rattle.office_closing.specs.Tables.{register_schema, archive_table, segment_table, closed_for_table, settled_table, taken_table}
-use Rattle.office_closing.specs.{declared.register.Segment.Segment, Changes.{with_archive, with_segments, with_lists, with_taken, unmarked, marked_for}}
-use Rattle.office_closing.specs.{Lists.{SettledListContent, comes_before, put_list}, Register.{ArchiveContent, RegisterContent, is_of, last_closed}}
-use Rattle.office_closing.specs.{Stored.{HasWhole, archive_values, segment_values, file_values, list_values}, Sound.{is_sound, is_within, IsOfAccount}}
+use Rattle.office_closing.specs.Tables.{register_schema, archive_table, segment_table, closed_for_table, settled_table, taken_table, sealed_table}
+use Rattle.office_closing.specs.{declared.register.Segment.Segment, Lists.{SettledListContent, comes_before, put_list}}
+use Rattle.office_closing.specs.Changes.{with_archive, with_segments, with_lists, with_sealed, with_taken, unmarked, marked_for}
+use Rattle.office_closing.specs.{Register.{ArchiveContent, RegisterContent, SealedContent, is_of, last_closed}, Sound.{is_sound, is_within, IsOfAccount}}
+use Rattle.office_closing.specs.Stored.{HasWhole, archive_values, segment_values, file_values, list_values, sealed_values}
 use Rattle.office_closing.proofs.Created.{listed_by, last_pushed}
 use Rattle.office_closing.proofs.WriteTexts as texts
 
@@ -122,6 +123,7 @@ module _ (old new : State) (content : RegisterContent) (count : ℕ) where
         closed_for = rw (it.applies.tables.1.1.0 (λ e. omega (arith, e))) has.closed_for;
         lists = rw (it.applies.tables.1.1.1.0 (λ e. omega (arith, e))) has.lists;
         taken = rw (it.applies.tables.1.1.1.1.0 (λ e. omega (arith, e))) has.taken;
+        sealed = rw (it.applies.tables.1.1.1.1.1.0 (λ e. omega (arith, e))) has.sealed;
       }
 
   pub inserted_segment : HasWhole content old.now → (a : Segment) → Executes texts.insert_segment (segment_values a) old new (Ok count) → HasWhole (with_segments (a ∷ []) content) new.now
@@ -139,6 +141,7 @@ module _ (old new : State) (content : RegisterContent) (count : ℕ) where
         closed_for = rw (it.applies.tables.1.1.0 (λ e. omega (arith, e))) has.closed_for;
         lists = rw (it.applies.tables.1.1.1.0 (λ e. omega (arith, e))) has.lists;
         taken = rw (it.applies.tables.1.1.1.1.0 (λ e. omega (arith, e))) has.taken;
+        sealed = rw (it.applies.tables.1.1.1.1.1.0 (λ e. omega (arith, e))) has.sealed;
       }
 
   pub inserted_closed_for : HasWhole (unmarked content) old.now → (file : List ℕ) → Executes texts.insert_closed_for (file_values file) old new (Ok count) → HasWhole (marked_for file content) new.now
@@ -156,6 +159,7 @@ module _ (old new : State) (content : RegisterContent) (count : ℕ) where
         closed_for = holds_inserted closed_for_table file_values [] old.now new.now has.closed_for source file (simp cast_null) it;
         lists = rw (it.applies.tables.1.1.1.0 (λ e. omega (arith, e))) has.lists;
         taken = rw (it.applies.tables.1.1.1.1.0 (λ e. omega (arith, e))) has.taken;
+        sealed = rw (it.applies.tables.1.1.1.1.1.0 (λ e. omega (arith, e))) has.sealed;
       }
 
   pub inserted_settled : HasWhole content old.now → (a : SettledListContent) → Executes texts.insert_settled (list_values a) old new (Ok count) → HasWhole (with_lists (a ∷ []) content) new.now
@@ -174,6 +178,7 @@ module _ (old new : State) (content : RegisterContent) (count : ℕ) where
         closed_for = rw (it.applies.tables.1.1.0 (λ e. omega (arith, e))) has.closed_for;
         lists = holds_again settled_table list_values (new.now.trees 6) (content.lists ++ a ∷ []) (put_list a content.lists) (put_as_last a content.lists) last;
         taken = rw (it.applies.tables.1.1.1.1.0 (λ e. omega (arith, e))) has.taken;
+        sealed = rw (it.applies.tables.1.1.1.1.1.0 (λ e. omega (arith, e))) has.sealed;
       }
 
   pub inserted_taken : HasWhole content old.now → (a : Segment) → Executes texts.insert_taken (segment_values a) old new (Ok count) → HasWhole (with_taken (a ∷ []) content) new.now
@@ -191,6 +196,25 @@ module _ (old new : State) (content : RegisterContent) (count : ℕ) where
         closed_for = rw (it.applies.tables.1.1.0 (λ e. omega (arith, e))) has.closed_for;
         lists = rw (it.applies.tables.1.1.1.0 (λ e. omega (arith, e))) has.lists;
         taken = holds_inserted taken_table segment_values content.taken old.now new.now has.taken source a (simp (cast_null, cast_int)) it;
+        sealed = rw (it.applies.tables.1.1.1.1.1.0 (λ e. omega (arith, e))) has.sealed;
+      }
+
+  pub inserted_sealed : HasWhole content old.now → (a : SealedContent) → Executes texts.insert_sealed (sealed_values a) old new (Ok count) → HasWhole (with_sealed (a ∷ []) content) new.now
+  inserted_sealed has a h =
+      let params = sealed_values a in
+      let source = number_value a.archive ∷ Null ∷ column params 1 ∷ column params 2 ∷ [] in
+      let text = statement_of texts.insert_sealed (understood register_schema texts.insert_sealed) in
+      let w = runs_as texts.insert_sealed params old new register_schema has.schema (Insert 5 (Values texts.insert_sealed_terms 4)) texts.insert_sealed_is texts.insert_sealed_plain count h in
+      let it = inserts old new has.schema 5 sealed_table refl refl params text count texts.insert_sealed_terms 4 source refl w in
+      record {
+        schema = it.schema;
+        listed = it.lists;
+        archives = rw (it.applies.tables.0 (λ e. omega (arith, e))) has.archives;
+        segments = rw (it.applies.tables.1.0 (λ e. omega (arith, e))) has.segments;
+        closed_for = rw (it.applies.tables.1.1.0 (λ e. omega (arith, e))) has.closed_for;
+        lists = rw (it.applies.tables.1.1.1.0 (λ e. omega (arith, e))) has.lists;
+        taken = rw (it.applies.tables.1.1.1.1.0 (λ e. omega (arith, e))) has.taken;
+        sealed = holds_inserted sealed_table sealed_values content.sealed old.now new.now has.sealed source a (simp (cast_null, cast_int)) it;
       }
 
 -- ==== RaiseLemmas: Registers with one more archive, and the last numbers of their segments in a list by id.

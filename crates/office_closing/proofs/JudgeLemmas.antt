@@ -1,17 +1,20 @@
 -- What a plan says of the rows and the registers of store and archive.
-use Rattle.std.{specs.{Prelude.{Contains, IsPermutation, IsUtf8}, List.AllByRecursion}, proofs.lemmas.Bool.{and_parts, eqb-true}}
-use Rattle.std.proofs.Common.{◌≡◌, ◌⊎◌, inl, inr, ℕ, ◌+◌, ◌==◌, ◌<◌, ◌≤◌, List, [], ◌∷◌, ◌++◌, ◌&&◌, None, Bool, true, false, cond, if◌then◌else◌, filter, map, length, refl, sym, ap, ap₂, subst, ◌∙◌, arith, Result, Ok, Err}
-use Rattle.std.proofs.{lemmas.Str.IsUtf8-string_bytes, lemmas.List.Sorted.{Contains-permutation, IsPermutation-sym}}
+use Rattle.std.{specs.{Prelude.{slice_index_or, Contains, IsPermutation, IsUtf8}, List.{AllByRecursion, list_all}, Str.bytes_eq}, proofs.{lemmas.List.length-map, lemmas.Slice.Eq.bytes_eq-Decides}}
+use Rattle.std.proofs.Common.{suc, zero, nat_lt, ◌≡◌, ◌≢◌, ◌⊎◌, inl, inr, ℕ, ◌+◌, ◌==◌, ◌<◌, ◌≤◌, List, [], ◌∷◌, ◌++◌, ◌&&◌, None, Bool, true, false, cond, if◌then◌else◌, filter, map, length, refl, sym, ap, ap₂, subst, ◌∙◌, arith, Result, Ok, Err}
+use Rattle.std.proofs.{lemmas.Bool.{and_parts, cases_Bool, eqb-true}, lemmas.Str.IsUtf8-string_bytes}
+use Rattle.std.proofs.lemmas.List.Sorted.{Contains-permutation, IsPermutation-sym}
+use Rattle.sqlite_trees.proofs.ListLemmas.{map-map}
 use Rattle.terminal_core.specs.{Rows.VisitContent, State.last_number}
 use Rattle.office_loading.specs.Tables.{LoadsOwn}
 use Rattle.office_closing.specs.{Waiting.AreWaitedFor, declared.register.Segment.Segment, Changes.{closed_with, marked_for, unmarked}, Deleting.is_among}
 use Rattle.office_closing.specs.{declared.settled_lists.SettledList.SettledList, Lists.{SettledListContent, comes_before, list_content, put_list, put_lists}}
-use Rattle.office_closing.specs.{Register.{ArchiveContent, RegisterContent, closed_by, last_closed}, declared.comparing.Numbers.Numbers, Comparing.IsComparedAs}
-use Rattle.office_closing.specs.Sound.{IsSound, are_sound_archives, are_sound_lists, are_sound_segments, are_sound_taken, is_sound, is_sound_mark}
-use Rattle.office_closing.specs.{declared.planning.Plan.Plan, declared.planning.Stage.Stage, Going.AreDone, Files.{Files, IsRead, IsReadIfOpen}, Laws.Raises}
-use Rattle.office_closing.specs.Closes.{AreHeld, Closing, ClosesAll, Held, IsAtStage, IsBelowNext, IsClosing, KeepsTaken, PutsAway, closed_after, closed_before, closing_content, raised_register}
-use Rattle.office_closing.specs.Copies.{ClosesNone, FileNames, HasCome, IsOpened, OfficeContent, archive_in, closes_some, is_put_away_with, lists_at, numbers_from, numbers_of, raised_by, segment_of, segments_of, GoWith, is_with, segments_in, taken_at, taken_of}
-use Rattle.office_closing.specs.{Judging.{IsComparedIf, IsJudged, WantsAll}, Steps.is_unraised, Planning.IsPlan, Visits.AreToGo}
+use Rattle.office_closing.specs.{Register.{ArchiveContent, RegisterContent, SealedContent, closed_by, last_closed, sealed_content}, declared.planning.Plan.Plan}
+use Rattle.office_closing.specs.{Seals.{seals_of, with_seals}, declared.comparing.Numbers.Numbers, declared.faults.CloseFault.CloseFault, Going.AreDone}
+use Rattle.office_closing.specs.Sound.{IsSound, are_sound_archives, are_sound_lists, are_sound_segments, are_sound_sealed, are_sealed_in_turn, are_sound_taken, is_sound, is_sound_mark, may_be_sealed}
+use Rattle.office_closing.specs.{declared.planning.Stage.Stage, Comparing.IsComparedAs, Files.{Files, IsRead, IsReadIfOpen}, Steps.is_unraised, Laws.Raises}
+use Rattle.office_closing.specs.Closes.{AreHeld, Closing, ClosesAll, Held, IsAtStage, IsBelowNext, IsClosing, KeepsSeals, KeepsTaken, PutsAway, Tells, closed_after, closed_before, closing_content, raised_register}
+use Rattle.office_closing.specs.Copies.{ClosesNone, FileNames, HasCome, IsOpened, OfficeContent, archive_in, closes_some, is_put_away_with, lists_at, numbers_from, numbers_of, raised_by, segment_of, segments_of, GoWith, is_sealed_with, is_with, sealed_at, sealed_by, segments_in, taken_at, taken_of}
+use Rattle.office_closing.specs.{Judging.{IsComparedIf, IsJudged, IsOfSealing, IsSealedPlan, WantsAll}, Planning.IsPlan, Visits.AreToGo}
 use Rattle.office_closing.proofs.{WaitingLemmas.{accounts_by_id, all_found, goes_as, one_nexts}, ClearLemmas.{done_with, gone_are_done, one_longer}}
 use Rattle.office_closing.proofs.PlanLemmas.{compared_held, goes_if_not, may_stay, account_found, numbers_are_from, segments_raise, segments_rise}
 use Rattle.office_closing.proofs.NumberLemmas.{lines_loaded, visits_loaded}
@@ -21,6 +24,8 @@ use Rattle.sqlite.{specs.State.{State, HasCleanDisk}, proofs.Callers.unchanged_t
 use Rattle.office_rows.proofs.Creating.{keep_then, on_ok, quiet_then}
 use Rattle.office_tables.specs.{DeliveryReading.OnlyReads, Reading.Reads, declared.table_fault.TableFault.TableFault}
 use Rattle.office_tables.proofs.WriteLemmas.{nothing_read, same_unchanged}
+use Rattle.office_closing.specs.declared.faults.CloseFault.TheVariants as fault
+use Rattle.office_closing.specs.declared.faults.Refusal.TheVariants as refusal
 use Rattle.office_closing.specs.declared.planning.Stage.TheVariants as stage
 
 -- ---- texts
@@ -77,14 +82,185 @@ taken_with archive (one ∷ taken) = by (one.archive == archive) refl (taken_wit
     by true e rest = (eqb-true one.archive archive e, rest)
     by false e rest = rest
 
+-- what is sealed with an archive is with it
+sealed_with : (archive : ℕ) (sealed : List SealedContent) → AllByRecursion (λ (one : SealedContent). one.archive ≡ archive) (filter (is_sealed_with archive) sealed)
+sealed_with archive [] = tt
+sealed_with archive (one ∷ sealed) = by (one.archive == archive) refl (sealed_with archive sealed)
+  where
+    by : (b : Bool) → (one.archive == archive) ≡ b → AllByRecursion (λ (s : SealedContent). s.archive ≡ archive) (filter (is_sealed_with archive) sealed)
+        → AllByRecursion (λ (s : SealedContent). s.archive ≡ archive) (cond b (one ∷ filter (is_sealed_with archive) sealed) (filter (is_sealed_with archive) sealed))
+    by true e rest = (eqb-true one.archive archive e, rest)
+    by false e rest = rest
+
+both_all : {A : Type 0} (P Q : A → Type 0) (xs : List A) → AllByRecursion P xs → AllByRecursion Q xs → AllByRecursion (λ x. P x × Q x) xs
+both_all P Q [] ps qs = tt
+both_all P Q (x ∷ xs) ps qs = ((ps.0, qs.0), both_all P Q xs ps.1 qs.1)
+
+-- whether a register is sound does not depend on seals
+module _ (archives archive : ℕ) (terminal seals others : List ℕ) where
+  abbrev one_seal : List ℕ → SealedContent
+  one_seal s = record { archive = archive; terminal = terminal; seals = s }
+
+  may_be_alike : (sealed : List SealedContent) → list_all (may_be_sealed archives) (sealed ++ one_seal seals ∷ []) ≡ list_all (may_be_sealed archives) (sealed ++ one_seal others ∷ [])
+  may_be_alike [] = refl
+  may_be_alike (s ∷ sealed) = ap (λ b. may_be_sealed archives s && b) (may_be_alike sealed)
+
+  in_turn_alike : (before : ℕ) (sealed : List SealedContent) → are_sealed_in_turn before (sealed ++ one_seal seals ∷ []) ≡ are_sealed_in_turn before (sealed ++ one_seal others ∷ [])
+  in_turn_alike before [] = refl
+  in_turn_alike before (s ∷ sealed) = ap (λ b. nat_lt before s.archive && b) (in_turn_alike s.archive sealed)
+
+  sealed_alike : (sealed : List SealedContent) → are_sound_sealed archives (sealed ++ one_seal seals ∷ []) ≡ are_sound_sealed archives (sealed ++ one_seal others ∷ [])
+  sealed_alike sealed = ap₂ (λ a b. a && b) (may_be_alike sealed) (in_turn_alike 0 sealed)
+
+abbrev sound_but : RegisterContent → Bool → Bool
+sound_but c sealed =
+    are_sound_archives c.archives
+    && (are_sound_segments (length c.archives) c.segments
+    && (are_sound_lists (length c.archives) c.lists && (are_sound_taken (length c.archives) c.taken && (sealed && is_sound_mark c.closed_for))))
+
+any_seals : (own copy : OfficeContent) (file : List ℕ) (lists : List SettledListContent) (taken : List Segment) (place : ℕ) (seals : List ℕ) (come : Stage)
+    → is_sound (raised_by file lists taken (sealed_at own place seals come) copy) ≡ is_sound (raised_by file lists taken (sealed_at own place [] come) copy)
+any_seals own copy file lists taken place seals stage.New =
+    ap (sound_but (raised_by file lists taken [] copy)) (sealed_alike (length (copy.register.archives ++ archive_in file copy ∷ [])) place own.setup.terminal seals [] copy.register.sealed)
+any_seals own copy file lists taken place seals stage.Marked =
+    ap (sound_but (raised_by file lists taken [] copy)) (sealed_alike (length (copy.register.archives ++ archive_in file copy ∷ [])) place own.setup.terminal seals [] copy.register.sealed)
+any_seals own copy file lists taken place seals stage.Raised = refl
+
 none_mapped : {A B : Type 0} (f : A → B) (xs : List A) → map f xs ≡ [] → xs ≡ []
 none_mapped f [] e = refl
 none_mapped f (x ∷ xs) e = absurd cc
 
+-- ---- the seals of a plan
+
+filled : (own : OfficeContent) (place : ℕ) (seals : List ℕ) (s : Stage) → is_unraised s ≡ true → map (with_seals seals) (sealed_at own place [] s) ≡ sealed_at own place seals s
+filled own place seals stage.New due = refl
+filled own place seals stage.Marked due = refl
+filled own place seals stage.Raised due = absurd cc
+
+unfilled : (own : OfficeContent) (place : ℕ) (seals : List ℕ) (s : Stage) → is_unraised s ≡ false → sealed_at own place [] s ≡ sealed_at own place seals s
+unfilled own place seals stage.New off = absurd cc
+unfilled own place seals stage.Marked off = absurd cc
+unfilled own place seals stage.Raised off = refl
+
+one_due : (own : OfficeContent) (place : ℕ) (s : Stage) → is_unraised s ≡ true → length (sealed_at own place [] s) ≡ 1
+one_due own place stage.New due = refl
+one_due own place stage.Marked due = refl
+one_due own place stage.Raised due = absurd cc
+
+-- all have these seals, or one has others
+pub all_with : (seals : List ℕ) (sealed : List SealedContent) → list_all (λ (one : SealedContent). bytes_eq one.seals seals) sealed ≡ true → AllByRecursion (λ (one : SealedContent). one.seals ≡ seals) sealed
+all_with seals [] e = tt
+all_with seals (one ∷ sealed) e =
+    let both = and_parts (bytes_eq one.seals seals) (list_all (λ (one : SealedContent). bytes_eq one.seals seals) sealed) e in
+    ((bytes_eq-Decides one.seals seals).0 both.0, all_with seals sealed both.1)
+
+pub one_without : (seals : List ℕ) (sealed : List SealedContent) → list_all (λ (one : SealedContent). bytes_eq one.seals seals) sealed ≡ false → (one : SealedContent) × Contains sealed one × (one.seals ≢ seals)
+one_without seals [] e = absurd cc
+one_without seals (one ∷ sealed) e = by (bytes_eq one.seals seals) refl e (one_without seals sealed)
+  where
+    by : (b : Bool) → bytes_eq one.seals seals ≡ b → (b && list_all (λ (one : SealedContent). bytes_eq one.seals seals) sealed) ≡ false
+        → (list_all (λ (one : SealedContent). bytes_eq one.seals seals) sealed ≡ false → (other : SealedContent) × Contains sealed other × (other.seals ≢ seals))
+        → (other : SealedContent) × Contains (one ∷ sealed) other × (other.seals ≢ seals)
+    by true is off more =
+        let rest = more off in
+        (rest.0, tail_in one rest.0 sealed rest.1, rest.2)
+    by false is off more = (
+      one,
+      head_in one sealed,
+      λ same.
+          let yes = (bytes_eq-Decides one.seals seals).1 same in
+          absurd cc,
+    )
+
+-- a plan with its seals
+pub plan_sealed : (own copy : OfficeContent) (names : FileNames) (named : List ListName) (seals : List ℕ) (plan sealed : Plan) → IsPlan own copy names named [] plan → IsSealedPlan plan seals sealed → IsPlan own copy names named seals sealed
+plan_sealed own copy names named seals plan sealed is with_ =
+    let place = (archive_in names.archive copy).place in
+    let told : map sealed_content sealed.sealed.items ≡ sealed_at own place seals plan.stage = elim (cases_Bool (is_unraised plan.stage)) [
+      | inl due ↦ with_.due due (omega (arith, sym (length-map plan.sealed.items sealed_content) ∙ ap length is.sealed ∙ one_due own place plan.stage due)) ∙ sym (map-map (with_seals seals) sealed_content plan.sealed.items) ∙ ap (map (with_seals seals)) is.sealed ∙ filled own place seals plan.stage due
+      | inr off ↦ ap (map sealed_content) (with_.kept off).0 ∙ is.sealed ∙ unfilled own place seals plan.stage off
+    ] in
+    let same : record plan { sealed = sealed.sealed } ≡ sealed = sym with_.rest in
+    subst (IsPlan own copy names named seals) same record {
+      is_copy = is.is_copy;
+      numbers = is.numbers;
+      archive = is.archive;
+      segments = is.segments;
+      visits = is.visits;
+      done = is.done;
+      are_done = is.are_done;
+      lists = is.lists;
+      gone = is.gone;
+      taken = is.taken;
+      sealed = told;
+    }
+
+-- what is compared and what is sealed are of that plan too
+pub sealed_compared : (held : Held) (seals : List ℕ) (plan sealed : Plan) → IsSealedPlan plan seals sealed → IsComparedIf plan held → IsComparedIf sealed held
+sealed_compared held seals plan sealed with_ compared = subst (λ p. IsComparedIf p held) (sym with_.rest) compared
+
+pub sealed_numbers : (held : Held) (seals : List ℕ) (plan sealed : Plan) → IsSealedPlan plan seals sealed → seals ≡ seals_of held.copy plan.numbers.items → seals ≡ seals_of held.copy sealed.numbers.items
+sealed_numbers held seals plan sealed with_ are = are ∙ ap (λ (p : Plan). seals_of held.copy p.numbers.items) (sym with_.rest)
+
+pub sealed_kept : (seals : List ℕ) (plan sealed : Plan) → IsSealedPlan plan seals sealed → is_unraised sealed.stage ≡ false → AllByRecursion (λ (one : SealedContent). one.seals ≡ seals) (map sealed_content sealed.sealed.items)
+sealed_kept seals plan sealed with_ off =
+    let both = with_.kept (ap (λ (p : Plan). is_unraised p.stage) (sym with_.rest) ∙ off) in
+    subst (λ l. AllByRecursion (λ (one : SealedContent). one.seals ≡ seals) (map sealed_content l)) (sym both.0) both.1
+
+-- ---- other seals
+
+filtered_in : {A : Type 0} (p : A → Bool) (xs : List A) (x : A) → Contains (filter p xs) x → Contains xs x × (p x ≡ true)
+filtered_in p [] x inside = absurd (omega (arith, inside.1))
+filtered_in {A} p (y ∷ xs) x inside = by (filtered_in p xs x) (p y) refl inside.0 inside.1 inside.2
+  where
+    by : (Contains (filter p xs) x → Contains xs x × (p x ≡ true)) → (b : Bool) → p y ≡ b → (k : ℕ) → k < length (cond b (y ∷ filter p xs) (filter p xs)) → slice_index_or (cond b (y ∷ filter p xs) (filter p xs)) k x ≡ x → Contains (y ∷ xs) x × (p x ≡ true)
+    by more true e zero within is = (subst (Contains (y ∷ xs)) is (head_in y xs), subst (λ z. p z ≡ true) is e)
+    by more true e (suc k) within is =
+        let rest = more (k, omega (arith, within), is) in
+        (tail_in y x xs rest.0, rest.1)
+    by more false e k within is =
+        let rest = more (k, within, is) in
+        (tail_in y x xs rest.0, rest.1)
+
+raised_sealed : (own : OfficeContent) (place : ℕ) (s : Stage) → is_unraised s ≡ false → sealed_at own place [] s ≡ filter (is_sealed_with place) own.register.sealed
+raised_sealed own place stage.New off = absurd cc
+raised_sealed own place stage.Marked off = absurd cc
+raised_sealed own place stage.Raised off = refl
+
+-- the seals of the register are not those of what the archive keeps
+pub sealing_tells : (held : Held) (old : Files) (has : AreHeld held old) (names : FileNames) (own copy : OfficeContent) (of_own : IsOpened old.store.now old.register.now own)
+    (of_copy : IsOpened old.archive.now old.archive_register.now copy) (named : List ListName) (seals : List ℕ) (plan : Plan) (is : IsPlan own copy names named [] plan)
+    → seals ≡ seals_of held.copy plan.numbers.items → (why : CloseFault) → IsOfSealing plan seals why → Tells held names old why
+sealing_tells held old has names own copy of_own of_copy named seals plan is are (fault.Archive refusal.Seals) other =
+    let own_register = of_own.registered held.register has.register has.register_sound in
+    let copy_register = of_copy.registered held.copied has.copied has.copied_sound in
+    let place = (archive_in names.archive copy).place in
+    let one = other.1 in
+    let inside = subst (λ l. Contains l one) (is.sealed ∙ raised_sealed own place plan.stage other.0) other.2 in
+    let found = filtered_in (is_sealed_with place) own.register.sealed one inside in
+    let numbers = is.numbers ∙ ap (λ (c : RegisterContent). numbers_from (last_closed c.segments) 1 copy.nexts) copy_register in (
+      one,
+      subst (λ (c : RegisterContent). Contains c.sealed one) own_register found.0,
+      eqb-true one.archive place found.1 ∙ ap (λ (c : RegisterContent). length c.archives + 1) copy_register,
+      copy.nexts,
+      of_copy.nexts held.copy has.copy,
+      λ e. other.3 (e ∙ sym (are ∙ ap (seals_of held.copy) numbers)),
+    )
+sealing_tells held old has names own copy of_own of_copy named seals plan is are (fault.Archive refusal.Closed) other = absurd other
+sealing_tells held old has names own copy of_own of_copy named seals plan is are (fault.Archive refusal.Office) other = absurd other
+sealing_tells held old has names own copy of_own of_copy named seals plan is are (fault.Archive refusal.Later) other = absurd other
+sealing_tells held old has names own copy of_own of_copy named seals plan is are (fault.Archive refusal.Register) other = absurd other
+sealing_tells held old has names own copy of_own of_copy named seals plan is are (fault.Archive refusal.Order) other = absurd other
+sealing_tells held old has names own copy of_own of_copy named seals plan is are (fault.Archive (refusal.Interchange difference)) other = absurd other
+sealing_tells held old has names own copy of_own of_copy named seals plan is are (fault.Archive (refusal.Visit number)) other = absurd other
+sealing_tells held old has names own copy of_own of_copy named seals plan is are (fault.File of) other = absurd other
+sealing_tells held old has names own copy of_own of_copy named seals plan is are (fault.Comparing of) other = absurd other
+sealing_tells held old has names own copy of_own of_copy named seals plan is are fault.Memory other = tt
+
 -- ---- a plan
 
 module _ (held : Held) (old : Files) (has : AreHeld held old) (names : FileNames) (own copy : OfficeContent) (of_own : IsOpened old.store.now old.register.now own)
-    (of_copy : IsOpened old.archive.now old.archive_register.now copy) (named : List ListName) (waited : AreWaitedFor own.setup held.own named) (plan : Plan) (is : IsPlan own copy names named plan) (text : IsUtf8 names.archive) (store_text : IsUtf8 names.store) where
+    (of_copy : IsOpened old.archive.now old.archive_register.now copy) (named : List ListName) (waited : AreWaitedFor own.setup held.own named) (seals : List ℕ) (plan : Plan) (is : IsPlan own copy names named seals plan) (text : IsUtf8 names.archive) (store_text : IsUtf8 names.store) where
   own_register : own.register ≡ held.register
   own_register = of_own.registered held.register has.register has.register_sound
 
@@ -101,14 +277,18 @@ module _ (held : Held) (old : Files) (has : AreHeld held old) (names : FileNames
   closing = closing_content plan
 
   -- the register with the archive
-  raised_is : raised_register held closing ≡ raised_by names.archive closing.lists closing.taken copy
+  raised_is : raised_register held closing ≡ raised_by names.archive closing.lists closing.taken closing.sealed copy
   raised_is =
       let back = sym copy_register in
-      λ i. closed_with (is.archive i) (is.segments i) closing.lists closing.taken (unmarked (back i))
+      λ i. closed_with (is.archive i) (is.segments i) closing.lists closing.taken closing.sealed (unmarked (back i))
 
   raised_sound : IsSound (raised_register held closing)
   raised_sound = record {
-    tested = ap is_sound (raised_is ∙ ap (λ t. raised_by names.archive closing.lists t copy) is.taken) ∙ is.is_copy.comes.may.raised;
+    tested =
+        let at = (archive_in names.archive copy).place in
+        ap is_sound (raised_is ∙ ap (λ t. raised_by names.archive closing.lists t closing.sealed copy) is.taken
+        ∙ ap (λ s. raised_by names.archive closing.lists (taken_at own at plan.stage) s copy) is.sealed)
+        ∙ any_seals own copy names.archive closing.lists (taken_at own at plan.stage) at seals plan.stage ∙ is.is_copy.comes.may.raised;
     texts = record {
       files = all_pushed (λ (a : ArchiveContent). IsUtf8 a.file) held.copied.archives closing.archive has.copied_sound.texts.files (subst IsUtf8 (sym (ap (λ (a : ArchiveContent). a.file) is.archive)) text);
       lines = all_put (λ (list : SettledListContent). IsUtf8 list.lines) closing.lists held.copied.lists (texts_of_lists plan.lists.items) has.copied_sound.texts.lines;
@@ -123,13 +303,15 @@ module _ (held : Held) (old : Files) (has : AreHeld held old) (names : FileNames
       let segments : Bool = are_sound_segments (length held.copied.archives) held.copied.segments in
       let lists : Bool = are_sound_lists (length held.copied.archives) held.copied.lists in
       let taken : Bool = are_sound_taken (length held.copied.archives) held.copied.taken in
+      let sealed : Bool = are_sound_sealed (length held.copied.archives) held.copied.sealed in
       let mark : Bool = is_sound_mark held.copied.closed_for in
-      let first = and_parts archives (segments && (lists && (taken && mark))) has.copied_sound.tested in
-      let second = and_parts segments (lists && (taken && mark)) first.1 in
-      let third = and_parts lists (taken && mark) second.1 in
-      let fourth = and_parts taken mark third.1 in
+      let first = and_parts archives (segments && (lists && (taken && (sealed && mark)))) has.copied_sound.tested in
+      let second = and_parts segments (lists && (taken && (sealed && mark))) first.1 in
+      let third = and_parts lists (taken && (sealed && mark)) second.1 in
+      let fourth = and_parts taken (sealed && mark) third.1 in
+      let fifth = and_parts sealed mark fourth.1 in
       record {
-        tested = λ i. first.0 i && (second.0 i && (third.0 i && (fourth.0 i && is.is_copy.comes.may.mark i)));
+        tested = λ i. first.0 i && (second.0 i && (third.0 i && (fourth.0 i && (fifth.0 i && is.is_copy.comes.may.mark i))));
         texts = record { files = has.copied_sound.texts.files; lines = has.copied_sound.texts.lines; closed_for = store_text };
       }
 
@@ -151,10 +333,16 @@ module _ (held : Held) (old : Files) (has : AreHeld held old) (names : FileNames
   segments_are = is.segments ∙ ap₂ segments_of (sym (ap (λ (a : ArchiveContent). a.place) is.archive)) (sym is.numbers)
 
   -- how far it has come
-  at_by : (s : Stage) → closing.taken ≡ taken_at own (archive_in names.archive copy).place s → HasCome own copy names closing.lists s → IsAtStage held names closing s
-  at_by stage.New known come = (sym own_register ∙ sym come.0 ∙ ap unmarked copy_register, ap (λ (c : RegisterContent). c.closed_for) (sym copy_register) ∙ come.1)
-  at_by stage.Marked known come = (sym own_register ∙ sym come.0 ∙ ap unmarked copy_register, ap (λ (c : RegisterContent). c.closed_for) (sym copy_register) ∙ come.1)
-  at_by stage.Raised known come = (sym own_register ∙ sym come.0 ∙ ap (λ t. raised_by names.archive closing.lists t copy) (sym known) ∙ sym raised_is, ap (λ (c : RegisterContent). c.closed_for) (sym copy_register) ∙ come.1)
+  at_by : (s : Stage) → closing.taken ≡ taken_at own (archive_in names.archive copy).place s → closing.sealed ≡ sealed_at own (archive_in names.archive copy).place seals s → HasCome own copy names closing.lists s
+      → IsAtStage held names closing s
+  at_by stage.New known sealed come = (sym own_register ∙ sym come.0 ∙ ap unmarked copy_register, ap (λ (c : RegisterContent). c.closed_for) (sym copy_register) ∙ come.1)
+  at_by stage.Marked known sealed come = (sym own_register ∙ sym come.0 ∙ ap unmarked copy_register, ap (λ (c : RegisterContent). c.closed_for) (sym copy_register) ∙ come.1)
+  at_by stage.Raised known sealed come = (
+    sym own_register ∙ sym come.0
+        ∙ ap (λ t. raised_by names.archive closing.lists t (sealed_at own (archive_in names.archive copy).place seals stage.Raised) copy) (sym known)
+        ∙ ap (λ s. raised_by names.archive closing.lists closing.taken s copy) (sym sealed) ∙ sym raised_is,
+    ap (λ (c : RegisterContent). c.closed_for) (sym copy_register) ∙ come.1,
+  )
 
   to_go : AreToGo held.own.visits held.copy.visits closing.visits
   to_go =
@@ -237,6 +425,42 @@ module _ (held : Held) (old : Files) (has : AreHeld held old) (names : FileNames
         all = λ new. (own.nexts, of_own.nexts held.own has.own, is.taken ∙ same_taken plan.stage at new ∙ ap (λ n. taken_of n own.nexts) here);
       }
 
+  -- ---- what is sealed
+
+  sealed_placed : (s : Stage) → AllByRecursion (λ (one : SealedContent). one.archive ≡ (archive_in names.archive copy).place) (sealed_at own (archive_in names.archive copy).place seals s)
+  sealed_placed stage.New = (refl, tt)
+  sealed_placed stage.Marked = (refl, tt)
+  sealed_placed stage.Raised = sealed_with (archive_in names.archive copy).place own.register.sealed
+
+  abbrev HasSeals : SealedContent → Type 0
+  HasSeals one = one.seals ≡ seals
+
+  sealed_right : (s : Stage) → (is_unraised s ≡ false → AllByRecursion HasSeals (sealed_at own (archive_in names.archive copy).place seals s)) → AllByRecursion HasSeals (sealed_at own (archive_in names.archive copy).place seals s)
+  sealed_right stage.New kept = (refl, tt)
+  sealed_right stage.Marked kept = (refl, tt)
+  sealed_right stage.Raised kept = kept refl
+
+  -- until the register has the archive it is to get these seals
+  same_sealed : (s : Stage) → IsAtStage held names closing s → held.register ≡ unmarked held.copied → sealed_at own (archive_in names.archive copy).place seals s ≡ sealed_by own (archive_in names.archive copy).place seals
+  same_sealed stage.New at new = refl
+  same_sealed stage.Marked at new = refl
+  same_sealed stage.Raised at new = absurd (one_longer held.copied.archives closing.archive (ap (λ (c : RegisterContent). c.archives) (sym at.0 ∙ new)))
+
+  keeps_seals : seals ≡ seals_of held.copy closing.numbers → (is_unraised plan.stage ≡ false → AllByRecursion HasSeals closing.sealed) → IsAtStage held names closing plan.stage → KeepsSeals held closing
+  keeps_seals are kept at =
+      let place = (archive_in names.archive copy).place in
+      let here : place ≡ closing.archive.place = sym (ap (λ (a : ArchiveContent). a.place) is.archive) in
+      let placed = subst (AllByRecursion (λ (one : SealedContent). one.archive ≡ place)) (sym is.sealed) (sealed_placed plan.stage) in
+      let sealed = subst (AllByRecursion HasSeals) (sym is.sealed) (sealed_right plan.stage (λ raised. subst (AllByRecursion HasSeals) is.sealed (kept raised))) in
+      record {
+        setup = own.setup;
+        is_setup = record { db = old.store.now; has = has.own; terminal = own.terminal; loads = own_loads };
+        right = subst (λ n. AllByRecursion (λ (one : SealedContent). (one.archive ≡ n) × (one.seals ≡ seals_of held.copy closing.numbers)) closing.sealed) here
+            (subst (λ s. AllByRecursion (λ (one : SealedContent). (one.archive ≡ place) × (one.seals ≡ s)) closing.sealed) are
+            (both_all (λ (one : SealedContent). one.archive ≡ place) HasSeals closing.sealed placed sealed));
+        all = λ new. is.sealed ∙ same_sealed plan.stage at new ∙ ap₂ (sealed_by own) here are;
+      }
+
   module _ (at : IsAtStage held names closing plan.stage) where
     are_done : held.register ≡ unmarked held.copied → closing.lists ≡ is.done
     are_done new = is.lists ∙ same_lists plan.stage at new
@@ -259,7 +483,7 @@ module _ (held : Held) (old : Files) (has : AreHeld held old) (names : FileNames
   -- ---- the whole
 
   -- numbers are closed by this call, or they are closed already
-  module _ (new : held.register ≡ unmarked held.copied) (lists : PutsAway held closing) (taken : KeepsTaken held closing) where
+  module _ (new : held.register ≡ unmarked held.copied) (lists : PutsAway held closing) (taken : KeepsTaken held closing) (sealed : KeepsSeals held closing) where
     same_before : closed_before held ≡ last_closed held.copied.segments
     same_before = ap (λ (c : RegisterContent). last_closed c.segments) new
 
@@ -282,9 +506,10 @@ module _ (held : Held) (old : Files) (has : AreHeld held old) (names : FileNames
       may = may_stay held.own.visits held.copy.visits closing.visits has.own_orderly.numbered to_go;
       lists = lists;
       taken = taken;
+      sealed = sealed;
     }
 
-  module _ (raised : held.register ≡ raised_register held closing) (lists : PutsAway held closing) (taken : KeepsTaken held closing) where
+  module _ (raised : held.register ≡ raised_register held closing) (lists : PutsAway held closing) (taken : KeepsTaken held closing) (sealed : KeepsSeals held closing) where
     same_after : closed_before held ≡ closed_after held closing
     same_after = ap (λ (c : RegisterContent). last_closed c.segments) raised
 
@@ -314,17 +539,18 @@ module _ (held : Held) (old : Files) (has : AreHeld held old) (names : FileNames
       may = may_stay held.own.visits held.copy.visits closing.visits has.own_orderly.numbered to_go;
       lists = lists;
       taken = taken;
+      sealed = sealed;
     }
 
-  judged_by : (s : Stage) → IsAtStage held names closing s → PutsAway held closing → KeepsTaken held closing → (is_unraised s ≡ true → IsComparedAs closing.numbers held.own held.copy None) → IsClosing held names closing
-  judged_by stage.New at lists taken compared = new_closing at.0 lists taken (compared refl)
-  judged_by stage.Marked at lists taken compared = new_closing at.0 lists taken (compared refl)
-  judged_by stage.Raised at lists taken compared = old_closing at.0 lists taken
+  judged_by : (s : Stage) → IsAtStage held names closing s → PutsAway held closing → KeepsTaken held closing → KeepsSeals held closing → (is_unraised s ≡ true → IsComparedAs closing.numbers held.own held.copy None) → IsClosing held names closing
+  judged_by stage.New at lists taken sealed compared = new_closing at.0 lists taken sealed (compared refl)
+  judged_by stage.Marked at lists taken sealed compared = new_closing at.0 lists taken sealed (compared refl)
+  judged_by stage.Raised at lists taken sealed compared = old_closing at.0 lists taken sealed
 
-  pub plan_judged : IsComparedIf plan held → IsJudged held names plan
-  plan_judged compared =
-      let at = at_by plan.stage is.taken is.is_copy.comes.has_come in
-      record { is_closing = judged_by plan.stage at (puts_away at) (keeps_taken at) compared; at = at }
+  pub plan_judged : seals ≡ seals_of held.copy closing.numbers → (is_unraised plan.stage ≡ false → AllByRecursion HasSeals closing.sealed) → IsComparedIf plan held → IsJudged held names plan
+  plan_judged are kept compared =
+      let at = at_by plan.stage is.taken is.sealed is.is_copy.comes.has_come in
+      record { is_closing = judged_by plan.stage at (puts_away at) (keeps_taken at) (keeps_seals are kept at) compared; at = at }
 
   -- ---- the texts
 
@@ -350,7 +576,7 @@ module _ (held : Held) (old : Files) (has : AreHeld held old) (names : FileNames
   -- all texts are wanted just if the closing begins and closes no number
   pub wants_none : WantsAll plan → ClosesNone held.register held.copied held.copy
   wants_none wants = record {
-    begins = begins_by plan.stage (at_by plan.stage is.taken is.is_copy.comes.has_come) wants.0;
+    begins = begins_by plan.stage (at_by plan.stage is.taken is.sealed is.is_copy.comes.has_come) wants.0;
     nexts = copy.nexts;
     are_nexts = of_copy.nexts held.copy has.copy;
     none = none_mapped (segment_of place) (closed_of copy.nexts) (sym segments_of_closed ∙ wants.1);
@@ -358,7 +584,7 @@ module _ (held : Held) (old : Files) (has : AreHeld held old) (names : FileNames
 
   pub none_wants : ClosesNone held.register held.copied held.copy → WantsAll plan
   none_wants none = (
-    unraised_by plan.stage (at_by plan.stage is.taken is.is_copy.comes.has_come) none.begins,
+    unraised_by plan.stage (at_by plan.stage is.taken is.sealed is.is_copy.comes.has_come) none.begins,
     segments_of_closed ∙ ap (map (segment_of place)) (ap closed_of (one_nexts held.copy copy.nexts none.nexts has.copy_orderly.accounts (of_copy.nexts held.copy has.copy) none.are_nexts) ∙ none.none),
   )
 
@@ -452,6 +678,11 @@ read_clean r clean = omega (arith, r.survives.clean)
 
 pub clean_before : {X E : Type 0} {old new : State} {result : Result X E} → IsReadIfOpen old new result → HasCleanDisk new → HasCleanDisk old
 clean_before r clean = omega (arith, r.survives.clean)
+
+-- a file that was not read, whatever came of it
+pub unread : {X E : Type 0} (now : State) (result : Result X E) → IsReadIfOpen now now result
+unread now (Ok x) = none_read now x
+unread now (Err e) = if_open_failed e (none_read {E = Unit {0}} now (tt {0}))
 
 pub if_open_after : {X Y Z E F G : Type 0} {a b c : State} {x : X} {y : Y} (z : Z) → IsReadIfOpen {E = E} a b (Ok x) → IsReadIfOpen {E = F} b c (Ok y) → IsReadIfOpen {E = G} a c (Ok z)
 if_open_after {a} {b} {c} z p q = record {

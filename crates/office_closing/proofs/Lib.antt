@@ -20,3 +20,4 @@ pub mod FoundLemmas
 pub mod WaitingLemmas
 pub mod DoneAwayLemmas
 pub mod TextLemmas
+mod SealLemmas

@@ -2,8 +2,7 @@
 use Rattle.std.specs.{Prelude.{◌↔◌, Contains, None, All, slice_get, nat_le, nat_lt}, List.{AllByRecursion, list_any, range_with_len}}
 use Rattle.std.proofs.Common.{◌≡◌, inl, inr, ℕ, suc, ◌<◌, ◌≤◌, ◌==◌, ◌||◌, List, [], ◌∷◌, Bool, true, false, cond, not, filter, get_or, refl, sym, ap, ap₂, subst, ◌∙◌, arith, ◌⊎◌, ◌+◌, ◌-◌, ◌&&◌, max, ◌++◌, if◌then◌else◌, map, length, Ok, Err, IsTrue}
 use Rattle.std.proofs.{lemmas.Bool.{cases_Bool, eqb-true, le-leb, leb-true, and_parts, eq-eqb, lt-ltb, ltb-true}, lemmas.Bool.Decides.nat_tests}
-use Rattle.std.proofs.lemmas.List.{get_or_default, append-nil}
-use Rattle.std.proofs.{lemmas.List.Elements.{filter_passes, recursion_from_All}, lemmas.Option.same_Some}
+use Rattle.std.proofs.{lemmas.List.{get_or_default, append-nil}, lemmas.List.Elements.{filter_passes, recursion_from_All}, lemmas.Option.same_Some}
 use Rattle.terminal_core.{specs.{Rows.VisitContent, State.{AreNumbered, last_from, last_number}}, proofs.Whole.{found_at, same_index}}
 use Rattle.office_rows.specs.Rows.{Interchange, Rows, Partner}
 use Rattle.office_parts.specs.{Archives.HoldsWhatGoes, Closing.{is_closed, is_beyond, carried}, LeftOver.{rows_beyond, rows_without}, Parts.Archived}
@@ -13,7 +12,7 @@ use Rattle.office_closing.specs.{Deleting.{all_but, without_visits, goes, is_of,
 use Rattle.office_closing.specs.{Laws.{Raises, ComparedIsHeld, ClearingLeavesTheRest, ClearedIsCarried}, Register.{last_closed, RegisterContent}}
 use Rattle.office_closing.specs.Copies.{AreAtMost, ClosesNone, closes_some, numbers_from, segment_of, segments_of, FileNames, IsOpened, OfficeContent}
 use Rattle.office_closing.specs.{declared.faults.CloseFault.CloseFault, Planning.IsRefused, Arriving.{HasAll, HasFirst, HasTexts, arrivals}}
-use Rattle.office_closing.specs.Refusing.{HasReason, HasUnfit, HasUnread, IsOfComparing, IsOfOpening, IsOfOrdering, IsOfThis, IsOtherwise, IsUnopened, IsWhy, HaveNoNexts}
+use Rattle.office_closing.specs.Refusing.{IsOfOtherTerminal, HasReason, HasUnfit, HasUnread, IsOfComparing, IsOfOpening, IsOfOrdering, IsOfThis, IsOtherwise, IsUnopened, IsWhy, HaveNoNexts}
 use Rattle.office_closing.specs.{Steps.{IsOfWriting, StepsIf}, Transactions.{Becomes, HasBecome}, Closes.{Held, IsFaultIn, Tells}, declared.faults.File.File}
 use Rattle.office_history.proofs.Kept.{head_in, tail_in}
 use Rattle.sqlite.{specs.State.{State, HasCleanDisk, Survives}, proofs.StateLemmas.survives_weaker}
@@ -327,9 +326,9 @@ module _ (held : Held) (names : FileNames) (files : Files) where
 
   pub of_store_there : (at : File) (why : TableFault) → IsOfStore why → IsFaultIn held files at why
   of_store_there file.Store why is = inr (or_damaged (HasUnread held.own) why is)
-  of_store_there file.Register why is = is
+  of_store_there file.Register why is = or_damaged (IsOfOtherTerminal held.register files.store.now) why is
   of_store_there file.Archive why is = inr (or_damaged (HaveNoNexts held.copied held.copy) why is)
-  of_store_there file.ArchiveRegister why is = is
+  of_store_there file.ArchiveRegister why is = or_damaged (IsOfOtherTerminal held.copied files.archive.now) why is
 
   this_tells : (at : File) (Is : TableFault → Type 0) → ((of : TableFault) → Is of → IsFaultIn held files at of) → (why : CloseFault) → IsOfThis at Is why → Tells held names files why
   this_tells at Is so (fault.Archive why) is = absurd is
@@ -338,11 +337,11 @@ module _ (held : Held) (names : FileNames) (files : Files) where
   this_tells at Is so fault.Memory is = tt
 
   pub own_tells : (why : CloseFault) → IsOfOpening file.Store file.Register held.register held.own files.store.now why → Tells held names files why
-  own_tells why (inl is) = this_tells file.Register IsOfStore (λ of so. so) why is
+  own_tells why (inl is) = this_tells file.Register (IsOfStoreOr (IsOfOtherTerminal held.register files.store.now)) (λ of so. so) why is
   own_tells why (inr is) = this_tells file.Store (IsUnopened held.register held.own files.store.now) (λ of so. inl so) why is
 
   pub copy_tells : (why : CloseFault) → IsOfOpening file.Archive file.ArchiveRegister held.copied held.copy files.archive.now why → Tells held names files why
-  copy_tells why (inl is) = this_tells file.ArchiveRegister IsOfStore (λ of so. so) why is
+  copy_tells why (inl is) = this_tells file.ArchiveRegister (IsOfStoreOr (IsOfOtherTerminal held.copied files.archive.now)) (λ of so. so) why is
   copy_tells why (inr is) = this_tells file.Archive (IsUnopened held.copied held.copy files.archive.now) (λ of so. so) why is
 
   pub waiting_tells : (why : CloseFault) → IsOfThis file.Store (IsOfStoreOr (HasUnread held.own)) why → Tells held names files why
@@ -361,6 +360,7 @@ module _ (held : Held) (names : FileNames) (files : Files) where
   why_by refusal.Later has = has
   why_by refusal.Register has = has
   why_by refusal.Order has = absurd has.is_reason
+  why_by refusal.Seals has = absurd has.is_reason
   why_by (refusal.Visit number) has = has
 
   pub plan_tells : (here there : OfficeContent) → IsOpened files.store.now files.register.now here → IsOpened files.archive.now files.archive_register.now there → (why : CloseFault) → IsRefused here there names why → Tells held names files why
@@ -376,6 +376,7 @@ module _ (held : Held) (names : FileNames) (files : Files) where
   otherwise_told refusal.Later is = absurd is
   otherwise_told refusal.Register is = absurd is
   otherwise_told refusal.Order is = absurd is
+  otherwise_told refusal.Seals is = absurd is
   otherwise_told (refusal.Visit number) is = absurd is
 
   pub compared_tells : (why : CloseFault) → IsOfComparing own copy why → Tells held names files why
@@ -393,6 +394,7 @@ module _ (held : Held) (names : FileNames) (files : Files) where
   ordering_tells Wants so (fault.Archive refusal.Office) is = absurd is
   ordering_tells Wants so (fault.Archive refusal.Later) is = absurd is
   ordering_tells Wants so (fault.Archive refusal.Register) is = absurd is
+  ordering_tells Wants so (fault.Archive refusal.Seals) is = absurd is
   ordering_tells Wants so (fault.Archive (refusal.Visit number)) is = absurd is
   ordering_tells Wants so (fault.File of) is = absurd is
   ordering_tells Wants so (fault.Comparing of) is = no_more of.file of.fault is

@@ -11,11 +11,12 @@ use Rattle.sqlite_exec.proofs.PartitionLemmas.{sorted_from_ascending}
 use Rattle.office_rows.specs.{Values.number_value, Stored.Holds, Shown.{columns_at, ShowsTable}}
 use Rattle.office_loading.proofs.{VersionLemmas.{keys_cmp, keys_total, in_order, same_rows}, RowLemmas.name_text}
 use Rattle.terminal_core.specs.{State.side_code, declared.lines.Side.Side, declared.lines.Side.TheVariants.{Load, Discharge}}
-use Rattle.office_closing.specs.{Lists.{SettledListContent, list_cmp}, declared.register.Segment.Segment, Register.{ArchiveContent, RegisterContent}}
-use Rattle.office_closing.specs.Reading.{FitsArchive, FitsSegment, FitsList, FitsRegister, FailsTables, ShowsNoSound}
-use Rattle.office_closing.specs.Sound.{may_be_archive, are_numbered, is_within, comes_later, are_in_order, may_be_list, are_rising, are_sound_archives, are_sound_segments, are_sound_taken, is_sound_mark, IsSound, is_sound}
-use Rattle.office_closing.specs.Stored.{HasRegisterIn, HoldsLists, HoldsTaken, ShowsLists, ShowsTaken, ShowsRegister, list_values, archive_values, segment_values, file_values, if_any}
-use Rattle.office_closing.specs.Tables.{archive_table, segment_table, closed_for_table, settled_table, taken_table, Layout, older, former, whole}
+use Rattle.office_closing.specs.{Lists.{SettledListContent, list_cmp}, declared.register.Segment.Segment}
+use Rattle.office_closing.specs.Register.{ArchiveContent, RegisterContent, SealedContent}
+use Rattle.office_closing.specs.Reading.{FitsArchive, FitsSealed, FitsSegment, FitsList, FitsRegister, FailsTables, ShowsNoSound}
+use Rattle.office_closing.specs.Sound.{may_be_archive, are_numbered, is_within, comes_later, are_in_order, may_be_list, are_rising, are_sound_archives, are_sound_segments, are_sound_taken, are_sound_sealed, may_be_sealed, are_sealed_in_turn, is_sound_mark, IsSound, is_sound}
+use Rattle.office_closing.specs.Stored.{HasRegisterIn, HoldsLists, HoldsTaken, HoldsSealed, ShowsLists, ShowsTaken, ShowsSealed, ShowsRegister, list_values, archive_values, segment_values, sealed_values, file_values, if_any}
+use Rattle.office_closing.specs.Tables.{archive_table, segment_table, closed_for_table, settled_table, taken_table, sealed_table, Layout, older, former, unsealed, whole}
 use Rattle.office_tables.specs.{declared.table_fault.TableFault.TableFault, Faults.{IsOfStore, IsOfStoreOr}}
 use Rattle.office_tables.proofs.WritesLemmas.{of_store_weaker, of_store_alone}
 
@@ -123,6 +124,33 @@ segments_fit archives (s ∷ segments) few h =
     let archive : s.archive ≤ archives = most_of s.archive archives (and_parts _ _ whose.1).1 in
     let last : s.last ≤ 999999999 = most_of s.last 999999999 (and_parts _ _ sides.1).1 in
     (record { partner = omega arith; archive = omega arith; last = omega arith }, segments_fit archives segments few parts.1)
+
+-- ---- seals
+
+sealed_above : (archive : ℕ) (sealed : List SealedContent) → are_sealed_in_turn archive sealed ≡ true → AllByRecursion (λ (s : SealedContent). archive < s.archive) sealed
+sealed_above archive [] h = tt
+sealed_above archive (s ∷ sealed) h =
+    let parts = and_parts _ _ h in
+    let first : archive < s.archive = less_of archive s.archive parts.0 in
+    (first, all_weaker (λ (t : SealedContent). s.archive < t.archive) (λ (t : SealedContent). archive < t.archive) (λ t above. omega (arith, first, above)) sealed (sealed_above s.archive sealed parts.1))
+
+sealed_after : (s : SealedContent) (sealed : List SealedContent) → AllByRecursion (λ (t : SealedContent). s.archive < t.archive) sealed → AllByRecursion (λ r. keys_cmp (0 ∷ []) (sealed_values s) r ≡ Less) (map sealed_values sealed)
+sealed_after s [] all = tt
+sealed_after s (t ∷ sealed) all = (less_first s.archive t.archive Equal all.0, sealed_after s sealed all.1)
+
+sealed_rise : (archive : ℕ) (sealed : List SealedContent) → are_sealed_in_turn archive sealed ≡ true → IsAscending (λ x y. keys_cmp (0 ∷ []) x y ≡ Less) (map sealed_values sealed)
+sealed_rise archive [] h = tt
+sealed_rise archive (s ∷ sealed) h =
+    let parts = and_parts _ _ h in
+    (sealed_after s sealed (sealed_above s.archive sealed parts.1), sealed_rise s.archive sealed parts.1)
+
+sealed_fit : (archives : ℕ) (sealed : List SealedContent) → archives ≤ 9999 → list_all (may_be_sealed archives) sealed ≡ true → AllByRecursion FitsSealed sealed
+sealed_fit archives [] few h = tt
+sealed_fit archives (s ∷ sealed) few h =
+    let parts = and_parts _ _ h in
+    let both = and_parts _ _ parts.0 in
+    let archive : s.archive ≤ archives = most_of s.archive archives (and_parts _ _ both.0).1 in
+    (record { archive = omega (arith, archive, few); terminal = name_text s.terminal both.1 }, sealed_fit archives sealed few parts.1)
 
 -- ---- lists
 
@@ -245,6 +273,13 @@ one_segment x y same =
     let last : x.last ≡ y.last = cc in
     λ i. record { partner = partner i; archive = archive i; last = last i }
 
+one_sealed : (x y : SealedContent) → sealed_values x ≡ sealed_values y → x ≡ y
+one_sealed x y same =
+    let archive : x.archive ≡ y.archive = cc in
+    let terminal : x.terminal ≡ y.terminal = cc in
+    let seals : x.seals ≡ y.seals = cc in
+    λ i. record { archive = archive i; terminal = terminal i; seals = seals i }
+
 one_side : (x y : Side) → number_value (side_code x) ≡ number_value (side_code y) → x ≡ y
 one_side Load Load same = refl
 one_side Load Discharge same = absurd cc
@@ -298,20 +333,38 @@ module _ (content : RegisterContent) (sound : IsSound content) where
   abbrev rise : Bool
   rise = are_rising None content.lists
 
-  of_lists : (may_be && rise) ≡ true
-  of_lists =
-      let segments = are_sound_segments (length content.archives) content.segments in
-      let last = are_sound_taken (length content.archives) content.taken && is_sound_mark content.closed_for in
-      let rest = (may_be && rise) && last in
-      (and_parts (may_be && rise) last (and_parts segments rest (and_parts (are_sound_archives content.archives) (segments && rest) sound.tested).1).1).0
+  abbrev known : Bool
+  known = are_sound_taken (length content.archives) content.taken
 
-  of_taken : are_sound_taken (length content.archives) content.taken ≡ true
-  of_taken =
+  abbrev closed : Bool
+  closed = are_sound_sealed (length content.archives) content.sealed
+
+  abbrev marked : Bool
+  marked = is_sound_mark content.closed_for
+
+  of_rest : ((may_be && rise) && (known && (closed && marked))) ≡ true
+  of_rest =
       let segments = are_sound_segments (length content.archives) content.segments in
-      let known = are_sound_taken (length content.archives) content.taken in
-      let last = known && is_sound_mark content.closed_for in
-      let rest = (may_be && rise) && last in
-      (and_parts known (is_sound_mark content.closed_for) (and_parts (may_be && rise) last (and_parts segments rest (and_parts (are_sound_archives content.archives) (segments && rest) sound.tested).1).1).1).0
+      let rest = (may_be && rise) && (known && (closed && marked)) in
+      (and_parts segments rest (and_parts (are_sound_archives content.archives) (segments && rest) sound.tested).1).1
+
+  of_lists : (may_be && rise) ≡ true
+  of_lists = (and_parts (may_be && rise) (known && (closed && marked)) of_rest).0
+
+  of_taken : known ≡ true
+  of_taken = (and_parts known (closed && marked) (and_parts (may_be && rise) (known && (closed && marked)) of_rest).1).0
+
+  of_sealed : closed ≡ true
+  of_sealed = (and_parts closed marked (and_parts known (closed && marked) (and_parts (may_be && rise) (known && (closed && marked)) of_rest).1).1).0
+
+  abbrev sealed_with_any : Bool
+  sealed_with_any = list_all (may_be_sealed (length content.archives)) content.sealed
+
+  pub sealed_within : sealed_with_any ≡ true
+  sealed_within = (and_parts sealed_with_any (are_sealed_in_turn 0 content.sealed) of_sealed).0
+
+  sealed_ordered : are_sealed_in_turn 0 content.sealed ≡ true
+  sealed_ordered = (and_parts sealed_with_any (are_sealed_in_turn 0 content.sealed) of_sealed).1
 
   abbrev known_within : Bool
   known_within = list_all (is_within (length content.archives)) content.taken
@@ -335,27 +388,44 @@ module _ (content : RegisterContent) (sound : IsSound content) where
     closed_for = sound.texts.closed_for;
     lists = lists_fit (length content.archives) content.lists few settled sound.texts.lines;
     taken = segments_fit (length content.archives) content.taken few taken_within;
+    sealed = sealed_fit (length content.archives) content.sealed few sealed_within;
   }
 
   lists_shown : (layout : Layout) (db : Database) → HoldsLists layout content.lists db.trees → ShowsLists layout db content.lists
   lists_shown older db held = held
   lists_shown former db held = held_shown settled_table (0 ∷ 1 ∷ 2 ∷ 3 ∷ 4 ∷ []) (0 ∷ 1 ∷ 2 ∷ 3 ∷ []) (λ r. refl) db list_values content.lists (lists_rise None content.lists rising) (λ a. refl) held
+  lists_shown unsealed db held = held_shown settled_table (0 ∷ 1 ∷ 2 ∷ 3 ∷ 4 ∷ []) (0 ∷ 1 ∷ 2 ∷ 3 ∷ []) (λ r. refl) db list_values content.lists (lists_rise None content.lists rising) (λ a. refl) held
   lists_shown whole db held = held_shown settled_table (0 ∷ 1 ∷ 2 ∷ 3 ∷ 4 ∷ []) (0 ∷ 1 ∷ 2 ∷ 3 ∷ []) (λ r. refl) db list_values content.lists (lists_rise None content.lists rising) (λ a. refl) held
 
   one_showing : (layout : Layout) (db : Database) (other : List SettledListContent) → ShowsLists layout db content.lists → ShowsLists layout db other → other ≡ content.lists
   one_showing older db other it that = that ∙ sym it
   one_showing former db other it that = one_by_one list_values one_list other content.lists (shown_once settled_table (0 ∷ 1 ∷ 2 ∷ 3 ∷ 4 ∷ []) (0 ∷ 1 ∷ 2 ∷ 3 ∷ []) (λ r. refl) db list_values content.lists (lists_rise None content.lists rising) _ it that)
+  one_showing unsealed db other it that = one_by_one list_values one_list other content.lists (shown_once settled_table (0 ∷ 1 ∷ 2 ∷ 3 ∷ 4 ∷ []) (0 ∷ 1 ∷ 2 ∷ 3 ∷ []) (λ r. refl) db list_values content.lists (lists_rise None content.lists rising) _ it that)
   one_showing whole db other it that = one_by_one list_values one_list other content.lists (shown_once settled_table (0 ∷ 1 ∷ 2 ∷ 3 ∷ 4 ∷ []) (0 ∷ 1 ∷ 2 ∷ 3 ∷ []) (λ r. refl) db list_values content.lists (lists_rise None content.lists rising) _ it that)
 
   taken_shown : (layout : Layout) (db : Database) → HoldsTaken layout content.taken db.trees → ShowsTaken layout db content.taken
   taken_shown older db held = held
   taken_shown former db held = held
+  taken_shown unsealed db held = held_shown taken_table (0 ∷ 1 ∷ 2 ∷ []) (1 ∷ 0 ∷ []) (λ r. refl) db segment_values content.taken (segments_rise 0 0 content.taken taken_ordered) (λ a. refl) held
   taken_shown whole db held = held_shown taken_table (0 ∷ 1 ∷ 2 ∷ []) (1 ∷ 0 ∷ []) (λ r. refl) db segment_values content.taken (segments_rise 0 0 content.taken taken_ordered) (λ a. refl) held
 
   one_taking : (layout : Layout) (db : Database) (other : List Segment) → ShowsTaken layout db content.taken → ShowsTaken layout db other → other ≡ content.taken
   one_taking older db other it that = that ∙ sym it
   one_taking former db other it that = that ∙ sym it
+  one_taking unsealed db other it that = one_by_one segment_values one_segment other content.taken (shown_once taken_table (0 ∷ 1 ∷ 2 ∷ []) (1 ∷ 0 ∷ []) (λ r. refl) db segment_values content.taken (segments_rise 0 0 content.taken taken_ordered) _ it that)
   one_taking whole db other it that = one_by_one segment_values one_segment other content.taken (shown_once taken_table (0 ∷ 1 ∷ 2 ∷ []) (1 ∷ 0 ∷ []) (λ r. refl) db segment_values content.taken (segments_rise 0 0 content.taken taken_ordered) _ it that)
+
+  sealed_shown : (layout : Layout) (db : Database) → HoldsSealed layout content.sealed db.trees → ShowsSealed layout db content.sealed
+  sealed_shown older db held = held
+  sealed_shown former db held = held
+  sealed_shown unsealed db held = held
+  sealed_shown whole db held = held_shown sealed_table (0 ∷ 1 ∷ 2 ∷ []) (0 ∷ []) (λ r. refl) db sealed_values content.sealed (sealed_rise 0 content.sealed sealed_ordered) (λ a. refl) held
+
+  one_sealing : (layout : Layout) (db : Database) (other : List SealedContent) → ShowsSealed layout db content.sealed → ShowsSealed layout db other → other ≡ content.sealed
+  one_sealing older db other it that = that ∙ sym it
+  one_sealing former db other it that = that ∙ sym it
+  one_sealing unsealed db other it that = that ∙ sym it
+  one_sealing whole db other it that = one_by_one sealed_values one_sealed other content.sealed (shown_once sealed_table (0 ∷ 1 ∷ 2 ∷ []) (0 ∷ []) (λ r. refl) db sealed_values content.sealed (sealed_rise 0 content.sealed sealed_ordered) _ it that)
 
   pub sound_shown : (layout : Layout) (db : Database) → HasRegisterIn layout content db → ShowsRegister layout content db
   sound_shown layout db has = record {
@@ -364,6 +434,7 @@ module _ (content : RegisterContent) (sound : IsSound content) where
     closed_for = held_shown closed_for_table (0 ∷ []) (0 ∷ []) (λ r. refl) db file_values (if_any content.closed_for) (files_rise content.closed_for) (λ a. refl) has.closed_for;
     lists = lists_shown layout db has.lists;
     taken = taken_shown layout db has.taken;
+    sealed = sealed_shown layout db has.sealed;
   }
 
   -- no other register is shown
@@ -375,7 +446,8 @@ module _ (content : RegisterContent) (sound : IsSound content) where
       let mark = one_mark other.closed_for content.closed_for files in
       let lists = one_showing layout db other.lists it.lists that.lists in
       let taken = one_taking layout db other.taken it.taken that.taken in
-      λ i. record { archives = archives i; segments = segments i; lists = lists i; taken = taken i; closed_for = mark i }
+      let sealed = one_sealing layout db other.sealed it.sealed that.sealed in
+      λ i. record { archives = archives i; segments = segments i; lists = lists i; taken = taken i; sealed = sealed i; closed_for = mark i }
 
 -- ==== RegisterLemmas: What reading the tables says of the register.
 

@@ -7,15 +7,15 @@ use Rattle.sqlite_trees.specs.declared.store.Store.{Ghosts}
 use Rattle.edi_messages.specs.Texts.{is_name}
 use Rattle.terminal_core.specs.State.{last_number}
 use Rattle.office_rows.{specs.{Rows.Rows, Stored.{HasRows, StoresRows}}, proofs.Creating.stores}
-use Rattle.office_closing.specs.{Changes.{closed_with, marked_for, unmarked}, Files.{AreClean, Files, files}, Register.{RegisterContent, last_closed}}
-use Rattle.office_closing.specs.{Closes.{AreHeld, AreOrderly, Closes, Closing, Held, IsAtStage, IsClosing, IsLeft, raised_register}, Tables.whole}
-use Rattle.office_closing.specs.Copies.{ComesOn, FileNames, HasCome, IsOpened, OfficeContent, archive_in, is_put_away_with, is_with, lists_at, numbers_from, numbers_of, raised_by, segments_of}
+use Rattle.office_closing.specs.{Changes.{closed_with, marked_for, unmarked}, Files.{AreClean, Files, files}, Seals.seals_of, Tables.whole}
+use Rattle.office_closing.specs.Closes.{AreHeld, AreOrderly, Closes, Closing, Held, IsAtStage, IsClosing, IsLeft, raised_register}
+use Rattle.office_closing.specs.Copies.{ComesOn, FileNames, HasCome, IsOpened, OfficeContent, archive_in, is_put_away_with, is_sealed_with, is_with, lists_at, numbers_from, numbers_of, raised_by, segments_of}
 use Rattle.office_closing.specs.{Lists.{SettledListContent, comes_before, list_cmp, put_list, put_lists}, Stored.{HasRegister, StoresEither}}
-use Rattle.office_closing.specs.Sound.{are_rising, are_sound_archives, are_sound_lists, are_sound_segments, are_sound_taken, is_sound, is_file_name, is_sound_mark, is_within, may_be_list}
+use Rattle.office_closing.specs.{Register.{RegisterContent, SealedContent, last_closed}, declared.faults.CloseFault.CloseFault, declared.planning.Stage.Stage}
+use Rattle.office_closing.specs.Sound.{are_rising, are_sound_archives, are_sound_lists, are_sound_segments, are_sound_sealed, are_sound_taken, is_sound, is_file_name, is_sound_mark, is_within, may_be_list, may_be_sealed}
 use Rattle.office_closing.specs.Stopping.{AreLeft, AreSettled, GoesOnFrom, IsOnItsWay, Left, MayBeLeft, StoppedClosingsGoOn, StopsAreOnTheWay}
-use Rattle.office_closing.specs.{declared.faults.CloseFault.CloseFault, declared.planning.Stage.Stage, declared.register.Segment.Segment}
-use Rattle.office_closing.proofs.{NumberLemmas.visits_loaded, SoundLemmas.{IsAfter, all_after, list_total, rising, settled, taken_within}}
-use Rattle.office_closing.proofs.WaitingLemmas.{one_nexts}
+use Rattle.office_closing.{specs.declared.register.Segment.Segment, proofs.{NumberLemmas.visits_loaded, WaitingLemmas.one_nexts}}
+use Rattle.office_closing.proofs.SoundLemmas.{IsAfter, all_after, list_total, rising, sealed_within, settled, taken_within}
 use Rattle.office_closing.specs.declared.planning.Stage.TheVariants as stage
 
 -- ---- what is left
@@ -42,7 +42,7 @@ none_gone closing rows = record {
 stores_either : (content : RegisterContent) (db : Database) → HasRegister content db → StoresEither content db.trees
 stores_either content db has = (
   has.0,
-  record { schema = refl; listed = has.1.listed; archives = has.1.archives; segments = has.1.segments; closed_for = has.1.closed_for; lists = has.1.lists; taken = has.1.taken },
+  record { schema = refl; listed = has.1.listed; archives = has.1.archives; segments = has.1.segments; closed_for = has.1.closed_for; lists = has.1.lists; taken = has.1.taken; sealed = has.1.sealed },
 )
 
 module _ (names : FileNames) (held : Held) (old new : Files) (has : AreHeld held old) (rest : AreSettled old) (clean : AreClean new) {T : Type 0} (result : Result T CloseFault) (closes : Closes names old new result)
@@ -237,16 +237,18 @@ mark_named file content is sound =
     let segments : Bool = are_sound_segments (length content.archives) content.segments in
     let lists : Bool = are_sound_lists (length content.archives) content.lists in
     let taken : Bool = are_sound_taken (length content.archives) content.taken in
+    let sealed : Bool = are_sound_sealed (length content.archives) content.sealed in
     let mark : Bool = is_sound_mark content.closed_for in
-    let first = and_parts archives (segments && (lists && (taken && mark))) sound in
-    let second = and_parts segments (lists && (taken && mark)) first.1 in
-    let third = and_parts lists (taken && mark) second.1 in
-    sym (ap is_sound_mark is) ∙ (and_parts taken mark third.1).1
+    let first = and_parts archives (segments && (lists && (taken && (sealed && mark)))) sound in
+    let second = and_parts segments (lists && (taken && (sealed && mark))) first.1 in
+    let third = and_parts lists (taken && (sealed && mark)) second.1 in
+    let fourth = and_parts taken (sealed && mark) third.1 in
+    sym (ap is_sound_mark is) ∙ (and_parts sealed mark fourth.1).1
 
 -- ---- what had been taken with an archive
 
 -- of what is with others none is found, and of its own all
-found_again : (p : Segment → Bool) (before last : List Segment) → AllByRecursion (λ s. p s ≡ false) before → AllByRecursion (λ s. p s ≡ true) last → filter p (before ++ last) ≡ last
+found_again : {A : Type 0} (p : A → Bool) (before last : List A) → AllByRecursion (λ s. p s ≡ false) before → AllByRecursion (λ s. p s ≡ true) last → filter p (before ++ last) ≡ last
 found_again p [] [] others its = refl
 found_again p [] (s ∷ last) others its = ap (λ b. cond b (s ∷ filter p last) (filter p last)) its.0 ∙ ap (λ l. s ∷ l) (found_again p [] last tt its.1)
 found_again p (s ∷ before) last others its = ap (λ b. cond b (s ∷ filter p (before ++ last)) (filter p (before ++ last))) others.0 ∙ found_again p before last others.1 its
@@ -265,6 +267,25 @@ taken_before most place (s ∷ taken) next within =
     by false e its = refl
     by true e its =
         let high : s.archive ≤ most = leb-true s.archive most (and_parts _ _ (and_parts _ _ (and_parts _ _ its).0).1).1 in
+        let at : s.archive ≡ place = eqb-true s.archive place e in
+        absurd (omega (arith, high, at, next))
+
+-- ---- what was sealed with it
+
+sealed_with : (place : ℕ) (seals : List ℕ) (sealed : List SealedContent) → AllByRecursion (λ (one : SealedContent). (one.archive ≡ place) × (one.seals ≡ seals)) sealed → AllByRecursion (λ s. is_sealed_with place s ≡ true) sealed
+sealed_with place seals [] all = tt
+sealed_with place seals (s ∷ sealed) all = (eq-eqb s.archive place all.0.0, sealed_with place seals sealed all.1)
+
+sealed_before : (most place : ℕ) (sealed : List SealedContent) → place ≡ most + 1 → list_all (may_be_sealed most) sealed ≡ true → AllByRecursion (λ s. is_sealed_with place s ≡ false) sealed
+sealed_before most place [] next within = tt
+sealed_before most place (s ∷ sealed) next within =
+    let all = and_parts (may_be_sealed most s) (list_all (may_be_sealed most) sealed) within in
+    (by (s.archive == place) refl all.0, sealed_before most place sealed next all.1)
+  where
+    by : (b : Bool) → (s.archive == place) ≡ b → may_be_sealed most s ≡ true → b ≡ false
+    by false e its = refl
+    by true e its =
+        let high : s.archive ≤ most = leb-true s.archive most (and_parts _ _ (and_parts _ _ its).0).1 in
         let at : s.archive ≡ place = eqb-true s.archive place e in
         absurd (omega (arith, high, at, next))
 
@@ -313,19 +334,21 @@ module _ (held left : Held) (names : FileNames) (way : IsOnItsWay held names lef
   segments_are = ap₂ segments_of (sym same_place) numbers_are ∙ sym way.is_closing.segments
 
   -- the register with lists that make those which it has
-  raised_is : (lists : List SettledListContent) (taken : List Segment) → put_lists lists held.copied.lists ≡ put_lists closing.lists held.copied.lists → taken ≡ closing.taken → raised_by names.archive lists taken copy ≡ raised_register held closing
-  raised_is lists taken same known =
+  raised_is : (lists : List SettledListContent) (taken : List Segment) (sealed : List SealedContent) → put_lists lists held.copied.lists ≡ put_lists closing.lists held.copied.lists → taken ≡ closing.taken → sealed ≡ closing.sealed
+      → raised_by names.archive lists taken sealed copy ≡ raised_register held closing
+  raised_is lists taken sealed same known with_ =
       let lists_are : put_lists lists copy.register.lists ≡ put_lists closing.lists held.copied.lists = ap (λ (c : RegisterContent). put_lists lists c.lists) same_copied ∙ same in
       λ i. record {
         archives = (same_copied i).archives ++ archive_is i ∷ [];
         segments = (same_copied i).segments ++ segments_are i;
         lists = lists_are i;
         taken = (same_copied i).taken ++ known i;
+        sealed = (same_copied i).sealed ++ with_ i;
         closed_for = None;
       }
 
   left_raised : raised_register left closing ≡ raised_register held closing
-  left_raised = ap (closed_with closing.archive closing.segments closing.lists closing.taken) way.copied
+  left_raised = ap (closed_with closing.archive closing.segments closing.lists closing.taken closing.sealed) way.copied
 
   module _ (at : IsAtStage left names closing stage.Raised) where
     own_is : own.register ≡ raised_register held closing
@@ -349,9 +372,16 @@ module _ (held left : Held) (names : FileNames) (way : IsOnItsWay held names lef
         (taken_before (length held.copied.archives) place held.copied.taken (sym same_place ∙ way.is_closing.place) (taken_within (marked_for names.store held.copied) way.is_closing.sound_mark))
         (taken_with place closing.taken (subst (λ n. AllByRecursion (λ (one : Segment). one.archive ≡ n) closing.taken) same_place way.is_closing.taken.placed))
 
+    sealed_again : filter (is_sealed_with place) own.register.sealed ≡ closing.sealed
+    sealed_again =
+        ap (λ (c : RegisterContent). filter (is_sealed_with place) c.sealed) own_is
+        ∙ found_again (is_sealed_with place) held.copied.sealed closing.sealed
+        (sealed_before (length held.copied.archives) place held.copied.sealed (sym same_place ∙ way.is_closing.place) (sealed_within (marked_for names.store held.copied) way.is_closing.sound_mark))
+        (sealed_with place (seals_of held.copy closing.numbers) closing.sealed (subst (λ n. AllByRecursion (λ (one : SealedContent). (one.archive ≡ n) × (one.seals ≡ seals_of held.copy closing.numbers)) closing.sealed) same_place way.is_closing.sealed.right))
+
     comes_on : ComesOn own copy names (filter (is_put_away_with place) own.register.lists) stage.Raised
     comes_on =
-        let same = raised_is (filter (is_put_away_with place) own.register.lists) (filter (is_with place) own.register.taken) lists_again taken_again ∙ sym own_is in
+        let same = raised_is (filter (is_put_away_with place) own.register.lists) (filter (is_with place) own.register.taken) (filter (is_sealed_with place) own.register.sealed) lists_again taken_again sealed_again ∙ sym own_is in
         record {
           has_come = (same, ap (λ (c : RegisterContent). c.closed_for) copy_register ∙ at.1);
           may = record {

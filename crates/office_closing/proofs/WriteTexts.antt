@@ -11,10 +11,10 @@ use Rattle.sqlite_tied.specs.Compute.{everything}
 use Rattle.office_rows.{specs.Tables.{no_schema, schema_of}, proofs.{WriteLemmas.rows_of, Creating.stops_keep}}
 use Rattle.office_tables.{specs.{Reading.OnlyShows, declared.table_fault.TableFault.TableFault, Faults.IsOfStoreOr}, proofs.MadeLemmas.MakesAnew}
 use Rattle.office_tables.proofs.WritesLemmas.{is_read, only_shows, of_store_weaker}
-use Rattle.office_closing.specs.Tables.{archive_table, segment_table, closed_for_table, settled_table, taken_table, older_schema, former_schema, register_schema, Layout, older, former, whole, schema_in, has_table, asking}
-use Rattle.office_closing.specs.{declared.register_reading.Later.Later, declared.register.Segment.Segment, Lists.SettledListContent, Register.ArchiveContent}
-use Rattle.office_closing.specs.Reading.{FitsArchive, FitsSegment, FitsList, ShowsArchives, ShowsSegments, ShowsFiles, FailsMark, ReadsMark, FailsTables}
-use Rattle.office_closing.specs.Stored.{ShowsLists, ShowsTaken, file_values, if_any}
+use Rattle.office_closing.specs.Tables.{archive_table, segment_table, closed_for_table, settled_table, taken_table, sealed_table, older_schema, former_schema, unsealed_schema, register_schema, Layout, older, former, unsealed, whole, schema_in, has_table, asking}
+use Rattle.office_closing.specs.{declared.register_reading.Later.Later, declared.register.Segment.Segment, Lists.SettledListContent}
+use Rattle.office_closing.specs.{Register.{ArchiveContent, SealedContent}, Stored.{ShowsLists, ShowsSealed, ShowsTaken, file_values, if_any}}
+use Rattle.office_closing.specs.Reading.{FitsArchive, FitsSealed, FitsSegment, FitsList, ShowsArchives, ShowsSegments, ShowsFiles, FailsMark, ReadsMark, FailsTables}
 use Rattle.sqlite_resolve.specs.{Compile.first, declared.error.CompileError.TheVariants.NoSuchTable, declared.compiled.Compiled.Compiled}
 use Rattle.sqlite_resolve.specs.declared.error.CompileError.{CompileError}
 use Rattle.sqlite_value.specs.{Keys.ascending, declared.keys.Key.Key}
@@ -125,6 +125,14 @@ pub settled_there_plain : IsPlain (understood former_schema complete_settled)
 unfolding understood everything
 settled_there_plain = (refl, refl)
 
+pub settled_kept : command_of (understood unsealed_schema complete_settled) ≡ Nothing
+unfolding understood everything
+settled_kept = refl
+
+pub settled_kept_plain : IsPlain (understood unsealed_schema complete_settled)
+unfolding understood everything
+settled_kept_plain = (refl, refl)
+
 pub completed_is : command_of (understood register_schema complete_settled) ≡ Nothing
 unfolding understood everything
 completed_is = refl
@@ -167,6 +175,14 @@ pub complete_taken_defined : table_defined_by complete_taken ≡ Ok (record take
 unfolding understood everything
 complete_taken_defined = refl
 
+pub taken_kept : command_of (understood unsealed_schema complete_taken) ≡ Nothing
+unfolding understood everything
+taken_kept = refl
+
+pub taken_kept_plain : IsPlain (understood unsealed_schema complete_taken)
+unfolding understood everything
+taken_kept_plain = (refl, refl)
+
 pub taken_there : command_of (understood register_schema complete_taken) ≡ Nothing
 unfolding understood everything
 taken_there = refl
@@ -174,6 +190,48 @@ taken_there = refl
 pub taken_there_plain : IsPlain (understood register_schema complete_taken)
 unfolding understood everything
 taken_there_plain = (refl, refl)
+
+abbrev pub create_sealed : List ℕ
+create_sealed = codes "CREATE TABLE sealed (archive INTEGER PRIMARY KEY, terminal TEXT NOT NULL, seals BLOB NOT NULL) STRICT"
+
+pub create_sealed_is : (command_of (understood unsealed_schema create_sealed) ≡ CreateTable) × (statement_of create_sealed (understood unsealed_schema create_sealed) ≡ create_sealed)
+unfolding understood everything
+create_sealed_is = (refl, refl)
+
+pub create_sealed_plain : IsPlain (understood unsealed_schema create_sealed)
+unfolding understood everything
+create_sealed_plain = (refl, refl)
+
+pub sealed_defined : table_defined_by create_sealed ≡ Ok (record sealed_table { tree = 0 })
+unfolding understood everything
+sealed_defined = refl
+
+pub sealed_anew : MakesAnew create_sealed
+unfolding everything
+sealed_anew = (refl, refl)
+
+abbrev pub complete_sealed : List ℕ
+complete_sealed = codes "CREATE TABLE IF NOT EXISTS sealed (archive INTEGER PRIMARY KEY, terminal TEXT NOT NULL, seals BLOB NOT NULL) STRICT"
+
+pub complete_sealed_is : (command_of (understood unsealed_schema complete_sealed) ≡ CreateTable) × (statement_of complete_sealed (understood unsealed_schema complete_sealed) ≡ complete_sealed)
+unfolding understood everything
+complete_sealed_is = (refl, refl)
+
+pub complete_sealed_plain : IsPlain (understood unsealed_schema complete_sealed)
+unfolding understood everything
+complete_sealed_plain = (refl, refl)
+
+pub complete_sealed_defined : table_defined_by complete_sealed ≡ Ok (record sealed_table { tree = 0 })
+unfolding understood everything
+complete_sealed_defined = refl
+
+pub sealed_there : command_of (understood register_schema complete_sealed) ≡ Nothing
+unfolding understood everything
+sealed_there = refl
+
+pub sealed_there_plain : IsPlain (understood register_schema complete_sealed)
+unfolding understood everything
+sealed_there_plain = (refl, refl)
 
 -- ---- rows
 
@@ -247,6 +305,20 @@ pub insert_taken_plain : IsPlain (understood register_schema insert_taken)
 unfolding understood everything
 insert_taken_plain = (refl, refl)
 
+abbrev pub insert_sealed : List ℕ
+insert_sealed = codes "INSERT INTO sealed (archive, terminal, seals) VALUES (?1, ?2, ?3)"
+
+abbrev pub insert_sealed_terms : List Term
+insert_sealed_terms = col 0 0 ∷ lit Null ∷ col 0 1 ∷ col 0 2 ∷ []
+
+pub insert_sealed_is : command_of (understood register_schema insert_sealed) ≡ Insert 5 (Values insert_sealed_terms 4)
+unfolding understood everything
+insert_sealed_is = refl
+
+pub insert_sealed_plain : IsPlain (understood register_schema insert_sealed)
+unfolding understood everything
+insert_sealed_plain = (refl, refl)
+
 -- ==== ReadTexts: What the texts mean that read.
 
 abbrev pub select_archive : List ℕ
@@ -265,12 +337,14 @@ pub select_archive_is : (layout : Layout) → (command_of (understood (schema_in
 unfolding understood everything
 select_archive_is older = (refl, refl)
 select_archive_is former = (refl, refl)
+select_archive_is unsealed = (refl, refl)
 select_archive_is whole = (refl, refl)
 
 pub select_archive_plain : (layout : Layout) → IsPlain (understood (schema_in layout) select_archive)
 unfolding understood everything
 select_archive_plain older = (refl, refl)
 select_archive_plain former = (refl, refl)
+select_archive_plain unsealed = (refl, refl)
 select_archive_plain whole = (refl, refl)
 
 pub select_archive_missing : understood no_schema select_archive ≡ Err NoSuchTable
@@ -300,12 +374,14 @@ pub select_segment_is : (layout : Layout) → (command_of (understood (schema_in
 unfolding understood everything
 select_segment_is older = (refl, refl)
 select_segment_is former = (refl, refl)
+select_segment_is unsealed = (refl, refl)
 select_segment_is whole = (refl, refl)
 
 pub select_segment_plain : (layout : Layout) → IsPlain (understood (schema_in layout) select_segment)
 unfolding understood everything
 select_segment_plain older = (refl, refl)
 select_segment_plain former = (refl, refl)
+select_segment_plain unsealed = (refl, refl)
 select_segment_plain whole = (refl, refl)
 
 segment_read : is_read (first select_segment) ≡ true
@@ -331,12 +407,14 @@ pub select_closed_for_is : (layout : Layout) → (command_of (understood (schema
 unfolding understood everything
 select_closed_for_is older = (refl, refl)
 select_closed_for_is former = (refl, refl)
+select_closed_for_is unsealed = (refl, refl)
 select_closed_for_is whole = (refl, refl)
 
 pub select_closed_for_plain : (layout : Layout) → IsPlain (understood (schema_in layout) select_closed_for)
 unfolding understood everything
 select_closed_for_plain older = (refl, refl)
 select_closed_for_plain former = (refl, refl)
+select_closed_for_plain unsealed = (refl, refl)
 select_closed_for_plain whole = (refl, refl)
 
 closed_for_read : is_read (first select_closed_for) ≡ true
@@ -362,12 +440,14 @@ pub select_settled_is : (layout : Layout) → has_table later.Lists layout ≡ t
 unfolding understood everything
 select_settled_is older there = absurd cc
 select_settled_is former there = (refl, refl)
+select_settled_is unsealed there = (refl, refl)
 select_settled_is whole there = (refl, refl)
 
 pub select_settled_plain : (layout : Layout) → has_table later.Lists layout ≡ true → IsPlain (understood (schema_in layout) select_settled)
 unfolding understood everything
 select_settled_plain older there = absurd cc
 select_settled_plain former there = (refl, refl)
+select_settled_plain unsealed there = (refl, refl)
 select_settled_plain whole there = (refl, refl)
 
 settled_read : is_read (first select_settled) ≡ true
@@ -380,13 +460,19 @@ settled_shows = only_shows select_settled settled_read
 abbrev pub select_taken : List ℕ
 select_taken = codes "SELECT partner, archive, last FROM taken ORDER BY archive, partner"
 
-pub select_taken_is : (command_of (understood register_schema select_taken) ≡ Select (record { lets = []; body = record (rows_of 8 [] select_segment_shown) { order = select_segment_order } }) select_segment_names) × (reads_listing register_schema select_taken ≡ false)
+pub select_taken_is : (layout : Layout) → has_table later.Taken layout ≡ true → (command_of (understood (schema_in layout) select_taken) ≡ Select (record { lets = []; body = record (rows_of 8 [] select_segment_shown) { order = select_segment_order } }) select_segment_names) × (reads_listing (schema_in layout) select_taken ≡ false)
 unfolding understood everything
-select_taken_is = (refl, refl)
+select_taken_is older there = absurd cc
+select_taken_is former there = absurd cc
+select_taken_is unsealed there = (refl, refl)
+select_taken_is whole there = (refl, refl)
 
-pub select_taken_plain : IsPlain (understood register_schema select_taken)
+pub select_taken_plain : (layout : Layout) → has_table later.Taken layout ≡ true → IsPlain (understood (schema_in layout) select_taken)
 unfolding understood everything
-select_taken_plain = (refl, refl)
+select_taken_plain older there = absurd cc
+select_taken_plain former there = absurd cc
+select_taken_plain unsealed there = (refl, refl)
+select_taken_plain whole there = (refl, refl)
 
 taken_read : is_read (first select_taken) ≡ true
 unfolding everything
@@ -395,25 +481,58 @@ taken_read = refl
 pub taken_shows : OnlyShows select_taken
 taken_shows = only_shows select_taken taken_read
 
+abbrev pub select_sealed : List ℕ
+select_sealed = codes "SELECT archive, terminal, seals FROM sealed ORDER BY archive"
+
+abbrev pub select_sealed_names : List (List ℕ)
+select_sealed_names = codes "archive" ∷ codes "terminal" ∷ codes "seals" ∷ []
+
+pub select_sealed_is : (command_of (understood register_schema select_sealed) ≡ Select (record { lets = []; body = record (rows_of 10 [] select_archive_shown) { order = select_archive_order } }) select_sealed_names) × (reads_listing register_schema select_sealed ≡ false)
+unfolding understood everything
+select_sealed_is = (refl, refl)
+
+pub select_sealed_plain : IsPlain (understood register_schema select_sealed)
+unfolding understood everything
+select_sealed_plain = (refl, refl)
+
+sealed_read : is_read (first select_sealed) ≡ true
+unfolding everything
+sealed_read = refl
+
+pub sealed_shows : OnlyShows select_sealed
+sealed_shows = only_shows select_sealed sealed_read
+
 -- ---- whether there is a table that came later
 
 pub table_found : (table : Later) (layout : Layout) → has_table table layout ≡ true → IsPlain (understood (schema_in layout) (asking table))
 unfolding understood everything
 table_found later.Lists older there = absurd cc
 table_found later.Lists former there = (refl, refl)
+table_found later.Lists unsealed there = (refl, refl)
 table_found later.Lists whole there = (refl, refl)
 table_found later.Taken older there = absurd cc
 table_found later.Taken former there = absurd cc
+table_found later.Taken unsealed there = (refl, refl)
 table_found later.Taken whole there = (refl, refl)
+table_found later.Sealed older there = absurd cc
+table_found later.Sealed former there = absurd cc
+table_found later.Sealed unsealed there = absurd cc
+table_found later.Sealed whole there = (refl, refl)
 
 pub table_missing : (table : Later) (layout : Layout) → has_table table layout ≡ false → understood (schema_in layout) (asking table) ≡ Err NoSuchTable
 unfolding understood listing_schema everything
 table_missing later.Lists older none = refl
 table_missing later.Lists former none = absurd cc
+table_missing later.Lists unsealed none = absurd cc
 table_missing later.Lists whole none = absurd cc
 table_missing later.Taken older none = refl
 table_missing later.Taken former none = refl
+table_missing later.Taken unsealed none = absurd cc
 table_missing later.Taken whole none = absurd cc
+table_missing later.Sealed older none = refl
+table_missing later.Sealed former none = refl
+table_missing later.Sealed unsealed none = refl
+table_missing later.Sealed whole none = absurd cc
 
 -- ==== ReadLemmas: From the rows that the tables show to a register, and why none is read.
 
@@ -467,6 +586,9 @@ module _ (layout : Layout) (db : Database) where
   pub taken_fails : (fault : TableFault) → FailsTable FitsSegment (ShowsTaken layout db) fault → FailsTables layout db fault
   taken_fails = of_store_weaker ((all : List Segment) → ShowsTaken layout db all → ¬ AllByRecursion FitsSegment all) _ (λ none content shown fits. none content.taken shown.taken fits.taken)
 
+  pub sealed_fails : (fault : TableFault) → FailsTable FitsSealed (ShowsSealed layout db) fault → FailsTables layout db fault
+  sealed_fails = of_store_weaker ((all : List SealedContent) → ShowsSealed layout db all → ¬ AllByRecursion FitsSealed all) _ (λ none content shown fits. none content.sealed shown.sealed fits.sealed)
+
 -- ---- the tables that came later
 
 -- the lists as the table shows them, if there is one
@@ -474,27 +596,47 @@ pub lists_read : {X Z : Type 0} (content : X → SettledListContent) (layout : L
 lists_read content older db result there read = absurd cc
 lists_read content former db (Ok lists) there read = read
 lists_read content former db (Err fault) there read = read
+lists_read content unsealed db (Ok lists) there read = read
+lists_read content unsealed db (Err fault) there read = read
 lists_read content whole db result there read = read
 
 pub lists_missing : {X Z : Type 0} (content : X → SettledListContent) (layout : Layout) (db : Database) (none : Vec X Z) → none.items ≡ [] → has_table later.Lists layout ≡ false → ReadsTable content FitsList (ShowsLists layout db) (Ok none)
 lists_missing content older db none empty there = (ap (map content) empty, subst (AllByRecursion FitsList) (sym (ap (map content) empty)) tt)
 lists_missing content former db none empty there = absurd cc
+lists_missing content unsealed db none empty there = absurd cc
 lists_missing content whole db none empty there = absurd cc
 
 -- what had been taken as the table shows it, if there is one
 pub taken_read_in : {X Z : Type 0} (content : X → Segment) (layout : Layout) (db : Database) (result : Result (Vec X Z) TableFault) → has_table later.Taken layout ≡ true → ReadsTable content FitsSegment (ShowsTaken whole db) result → ReadsTable content FitsSegment (ShowsTaken layout db) result
 taken_read_in content older db result there read = absurd cc
 taken_read_in content former db result there read = absurd cc
+taken_read_in content unsealed db (Ok taken) there read = read
+taken_read_in content unsealed db (Err fault) there read = read
 taken_read_in content whole db result there read = read
 
 pub taken_missing : {X Z : Type 0} (content : X → Segment) (layout : Layout) (db : Database) (none : Vec X Z) → none.items ≡ [] → has_table later.Taken layout ≡ false → ReadsTable content FitsSegment (ShowsTaken layout db) (Ok none)
 taken_missing content older db none empty there = (ap (map content) empty, subst (AllByRecursion FitsSegment) (sym (ap (map content) empty)) tt)
 taken_missing content former db none empty there = (ap (map content) empty, subst (AllByRecursion FitsSegment) (sym (ap (map content) empty)) tt)
+taken_missing content unsealed db none empty there = absurd cc
 taken_missing content whole db none empty there = absurd cc
 
-pub whole_by : (layout : Layout) → has_table later.Taken layout ≡ true → schema_in layout ≡ register_schema
+-- what was sealed as the table shows it, if there is one
+pub sealed_read_in : {X Z : Type 0} (content : X → SealedContent) (layout : Layout) (db : Database) (result : Result (Vec X Z) TableFault) → has_table later.Sealed layout ≡ true → ReadsTable content FitsSealed (ShowsSealed whole db) result → ReadsTable content FitsSealed (ShowsSealed layout db) result
+sealed_read_in content older db result there read = absurd cc
+sealed_read_in content former db result there read = absurd cc
+sealed_read_in content unsealed db result there read = absurd cc
+sealed_read_in content whole db result there read = read
+
+pub sealed_missing : {X Z : Type 0} (content : X → SealedContent) (layout : Layout) (db : Database) (none : Vec X Z) → none.items ≡ [] → has_table later.Sealed layout ≡ false → ReadsTable content FitsSealed (ShowsSealed layout db) (Ok none)
+sealed_missing content older db none empty there = (ap (map content) empty, subst (AllByRecursion FitsSealed) (sym (ap (map content) empty)) tt)
+sealed_missing content former db none empty there = (ap (map content) empty, subst (AllByRecursion FitsSealed) (sym (ap (map content) empty)) tt)
+sealed_missing content unsealed db none empty there = (ap (map content) empty, subst (AllByRecursion FitsSealed) (sym (ap (map content) empty)) tt)
+sealed_missing content whole db none empty there = absurd cc
+
+pub whole_by : (layout : Layout) → has_table later.Sealed layout ≡ true → schema_in layout ≡ register_schema
 whole_by older there = absurd cc
 whole_by former there = absurd cc
+whole_by unsealed there = absurd cc
 whole_by whole there = refl
 
 -- ---- whether there is one of them

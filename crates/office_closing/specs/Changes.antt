@@ -1,10 +1,11 @@
 -- What the calls that write make of a register.
 use Rattle.std.specs.Prelude.{ℕ, List, [], ◌∷◌, ◌++◌, None, Some}
-use Rattle.office_closing.specs.{declared.register.Segment.Segment, Lists.{SettledListContent, put_lists}, Register.{ArchiveContent, RegisterContent}}
+use Rattle.office_closing.specs.{declared.register.Segment.Segment, Lists.{SettledListContent, put_lists}}
+use Rattle.office_closing.specs.Register.{ArchiveContent, RegisterContent, SealedContent}
 
 -- that of a store of which nothing was put away
 abbrev pub empty_register : RegisterContent
-empty_register = record { archives = []; segments = []; lists = []; taken = []; closed_for = None }
+empty_register = record { archives = []; segments = []; lists = []; taken = []; sealed = []; closed_for = None }
 
 abbrev pub with_archive : ArchiveContent → RegisterContent → RegisterContent
 with_archive archive content = record content { archives = content.archives ++ archive ∷ [] }
@@ -18,11 +19,15 @@ with_lists lists content = record content { lists = put_lists lists content.list
 abbrev pub with_taken : List Segment → RegisterContent → RegisterContent
 with_taken taken content = record content { taken = content.taken ++ taken }
 
--- an archive is added, with the segments that it closes, the lists that were put away with it, and what had been taken then
-abbrev pub closed_with : ArchiveContent → List Segment → List SettledListContent → List Segment → RegisterContent →
-    RegisterContent
-closed_with archive segments lists taken content =
-    with_taken taken (with_lists lists (with_segments segments (with_archive archive content)))
+abbrev pub with_sealed : List SealedContent → RegisterContent → RegisterContent
+with_sealed sealed content = record content { sealed = content.sealed ++ sealed }
+
+-- an archive is added, with the segments that it closes, the lists that were put away with it, what had been taken then, and
+-- what was sealed with it
+abbrev pub closed_with : ArchiveContent → List Segment → List SettledListContent → List Segment → List SealedContent →
+    RegisterContent → RegisterContent
+closed_with archive segments lists taken sealed content =
+    with_sealed sealed (with_taken taken (with_lists lists (with_segments segments (with_archive archive content))))
 
 -- as it is
 abbrev pub unchanged : RegisterContent → RegisterContent

@@ -1,5 +1,5 @@
 -- What a closing of a store does: what it closes, what is left, and what it leaves at a fault and by a crash.
-use Rattle.std.specs.Prelude.{◌≡◌, ◌≢◌, ◌⊎◌, [], ℕ, ◌+◌, ◌<◌, ◌≤◌, true, Bool, List, Contains, length, map, None, Some, Result, Ok, Err, IfErr, IsTrue, OnErr, OnOk}
+use Rattle.std.specs.Prelude.{◌≡◌, ◌≢◌, ◌⊎◌, [], ◌∷◌, ℕ, ◌+◌, ◌<◌, ◌≤◌, true, Bool, List, Contains, length, map, None, Some, Result, Ok, Err, IfErr, IsTrue, OnErr, OnOk}
 use Rattle.std.specs.List.{AllByRecursion, range_with_len}
 use Rattle.sqlite.specs.{Effect.Database, State.{KeepsCommit, State, Survives}, Tree.Trees}
 use Rattle.terminal_core.specs.{Forms.IsFormedVisit, Rows.VisitContent, State.{AreNumbered, TerminalState, last_number}}
@@ -7,14 +7,14 @@ use Rattle.office_rows.specs.{Rows.{Interchange, Partner, Rows}, Shown.AreNexts,
 use Rattle.office_admission.specs.Setups.{SetupContent}
 use Rattle.office_history.specs.After.{AreKeptOnce}
 use Rattle.office_loading.specs.Tables.{LoadsOwn}
-use Rattle.office_closing.specs.{Going.{GoesAs, IsAmong, MayGo}, declared.register.Segment.Segment, Changes.{closed_with, marked_for, unmarked}, Sound.IsSound}
-use Rattle.office_closing.specs.{Lists.{SettledListContent, list_content}, Register.{ArchiveContent, RegisterContent, archive_content, closed_by, last_closed}}
-use Rattle.office_closing.specs.{Stored.{HasRegister, StoresRegister}, Transactions.IsSettled, declared.faults.CloseFault.CloseFault, declared.faults.File.File}
-use Rattle.office_closing.specs.{declared.comparing.Numbers.Numbers, declared.planning.Plan.Plan, declared.planning.PutAway.PutAway, Comparing.IsOfEither}
-use Rattle.office_closing.specs.{declared.planning.Stage.Stage, Arriving.{HasTexts, StandInOrder}, Files.{Files, AreClean, AreIdle, AreRead, IsRead}}
-use Rattle.office_closing.specs.{Copies.{ClosesNone, FileNames, numbers_from, segments_of, taken_of}, Laws.Raises, Steps.IsOfWriting, Visits.AreToGo}
-use Rattle.office_closing.specs.Deleting.{all_but, goes, is_one_of, with_visits_that, without_visits}
-use Rattle.office_closing.specs.Refusing.{HasUnfit, HasUnread, IsFileOf, IsUnopened, IsWhy}
+use Rattle.office_closing.specs.{Going.{GoesAs, IsAmong, MayGo}, declared.register.Segment.Segment, Changes.{closed_with, marked_for, unmarked}, Seals.seals_of}
+use Rattle.office_closing.specs.{Lists.{SettledListContent, list_content}, Sound.IsSound, Stored.{HasRegister, StoresRegister}, Transactions.IsSettled}
+use Rattle.office_closing.specs.Register.{ArchiveContent, RegisterContent, SealedContent, archive_content, closed_by, last_closed, sealed_content}
+use Rattle.office_closing.specs.{declared.faults.CloseFault.CloseFault, declared.faults.File.File, declared.comparing.Numbers.Numbers, Comparing.IsOfEither}
+use Rattle.office_closing.specs.{declared.planning.Plan.Plan, declared.planning.PutAway.PutAway, declared.planning.Stage.Stage, Laws.Raises, Steps.IsOfWriting}
+use Rattle.office_closing.specs.{Arriving.{HasTexts, StandInOrder}, Copies.{ClosesNone, FileNames, numbers_from, segments_of, taken_of}, Visits.AreToGo}
+use Rattle.office_closing.specs.{Deleting.{all_but, goes, is_one_of, with_visits_that, without_visits}, Files.{Files, AreClean, AreIdle, AreRead, IsRead}}
+use Rattle.office_closing.specs.Refusing.{HasUnfit, HasUnread, IsFileOf, IsOfOtherTerminal, IsUnopened, IsWhy}
 use Rattle.office_parts.specs.{OwnLists.{ListName, rows_without_lists}, Archives.HoldsWhatGoes, LeftOver.rows_without, OwnTerminal.MayStay, Parts.Archived}
 use Rattle.office_tables.specs.{Faults.{IsOfStore, IsOfStoreOr}, declared.table_fault.TableFault.TableFault}
 use Rattle.office_closing.specs.declared.faults.CloseFault.TheVariants as fault
@@ -56,7 +56,7 @@ pub record AreInTheirOrder (held : Held) (files : Files) : Type 0 where
 -- ---- what is closed
 
 -- the numbers that are closed, the visits that go, the archive, its segments, the lists that the register gets with it,
--- those of them that go, and what had been taken
+-- those of them that go, what had been taken, and what is sealed
 pub record Closing : Type 0 where
   pub numbers : List Numbers
   pub visits : List ℕ
@@ -65,6 +65,7 @@ pub record Closing : Type 0 where
   pub lists : List SettledListContent
   pub gone : List SettledListContent
   pub taken : List Segment
+  pub sealed : List SealedContent
 
 abbrev pub closing_content : Plan → Closing
 closing_content plan = record {
@@ -75,12 +76,13 @@ closing_content plan = record {
   lists = map list_content plan.lists.items;
   gone = map list_content plan.gone.items;
   taken = plan.taken.items;
+  sealed = map sealed_content plan.sealed.items;
 }
 
--- the store's register with the archive, the lists and what had been taken
+-- the store's register with the archive, the lists, what had been taken and what is sealed
 abbrev pub raised_register : Held → Closing → RegisterContent
 raised_register held closing =
-    closed_with closing.archive closing.segments closing.lists closing.taken (unmarked held.copied)
+    closed_with closing.archive closing.segments closing.lists closing.taken closing.sealed (unmarked held.copied)
 
 -- the last numbers that were closed before, as the store's register says, and those that are closed then
 abbrev pub closed_before : Held → ℕ → ℕ
@@ -133,6 +135,20 @@ pub record KeepsTaken (held : Held) (closing : Closing) : Type 0 where
   pub all : held.register ≡ unmarked held.copied
       → (nexts : List ℕ) × AreNexts held.own nexts × (closing.taken ≡ taken_of closing.archive.place nexts)
 
+-- What is sealed with this archive is what it closes, as it keeps it. If the register is to get the archive now, it
+-- gets them, with the terminal's code.
+pub record KeepsSeals (held : Held) (closing : Closing) : Type 0 where
+  pub setup : SetupContent
+  pub is_setup : AreOfSetup held.own held.register setup
+  pub right : AllByRecursion (λ (one : SealedContent). (one.archive ≡ closing.archive.place)
+      × (one.seals ≡ seals_of held.copy closing.numbers)) closing.sealed
+  pub all : held.register ≡ unmarked held.copied
+      → closing.sealed ≡ (record {
+        archive = closing.archive.place;
+        terminal = setup.terminal;
+        seals = seals_of held.copy closing.numbers;
+      }) ∷ []
+
 -- The archive holds all that goes, and all of that may go: the numbers by which the last closed ones rise, of the archive's
 -- register and so of the store's, are below the next of their accounts; the visits are over, and the newest is none of
 -- them. Lists go as the register has them. The store's register is sound with the archive, which comes after those that the
@@ -156,6 +172,7 @@ pub record IsClosing (held : Held) (names : FileNames) (closing : Closing) : Typ
   pub may : MayStay (all_but closing.visits) held.own.visits
   pub lists : PutsAway held closing
   pub taken : KeepsTaken held closing
+  pub sealed : KeepsSeals held closing
 
 -- how far a closing has come, by what the registers hold
 abbrev pub IsAtStage : Held → FileNames → Closing → Stage → Type 0
@@ -265,9 +282,9 @@ StoresMarked names old db =
 abbrev pub IsFaultIn : Held → Files → File → TableFault → Type 0
 IsFaultIn held files file.Store fault =
     IsUnopened held.register held.own files.store.now fault ⊎ IsOfStoreOr (HasUnread held.own) fault
-IsFaultIn held files file.Register fault = IsOfStore fault
+IsFaultIn held files file.Register fault = IsOfStoreOr (IsOfOtherTerminal held.register files.store.now) fault
 IsFaultIn held files file.Archive fault = IsUnopened held.copied held.copy files.archive.now fault
-IsFaultIn held files file.ArchiveRegister fault = IsOfStore fault
+IsFaultIn held files file.ArchiveRegister fault = IsOfStoreOr (IsOfOtherTerminal held.copied files.archive.now) fault
 
 -- What a fault tells: why the archive is refused; what a file has that can't be read; of the store or of the archive, where they
 -- were compared, that it failed or has a reply that is no text.

@@ -3,8 +3,9 @@ use Rattle.std.specs.{Prelude.{◌≡◌, ℕ, true, List, Option, None, Some, s
 use Rattle.office_rows.specs.Rows.{Rows}
 use Rattle.office_history.specs.{After.reply_in, Cascade.text_in}
 use Rattle.office_tables.specs.{Answers.HasUnfitReply, Faults.IsOfStoreOr, declared.interchanges.Kept.Kept, declared.table_fault.TableFault.TableFault}
-use Rattle.office_closing.specs.{Deleting.is_among, declared.comparing.Difference.Difference, declared.faults.File.File, declared.faults.FileFault.FileFault}
-use Rattle.office_closing.specs.declared.comparing.Numbers.{Numbers}
+use Rattle.office_closing.specs.{Deleting.is_among, declared.comparing.Compared.Compared, declared.comparing.Difference.Difference, declared.faults.File.File}
+use Rattle.office_closing.specs.{declared.faults.FileFault.FileFault, declared.comparing.Numbers.Numbers}
+use Rattle.office_closing.specs.declared.comparing.Compared.TheVariants as compared
 use Rattle.office_closing.specs.declared.faults.File.TheVariants as file
 
 -- ---- what is kept
@@ -36,6 +37,15 @@ IsComparedAs closing own copy None =
 IsComparedAs closing own copy (Some difference) =
     (is_among closing difference.partner difference.number ≡ true)
     × ¬ IsToldAlike difference.partner difference.number own copy
+
+-- the number that differs, if one does, and else the seals
+abbrev pub difference_in : Compared → Option Difference
+difference_in (compared.Alike seals) = None
+difference_in (compared.Differs difference) = Some difference
+
+abbrev pub seals_in : Compared → Option (List ℕ)
+seals_in (compared.Alike seals) = Some seals.items
+seals_in (compared.Differs difference) = None
 
 -- one of these numbers has a reply that is no text
 pub record HasUnfitAmong (closing : List Numbers) (rows : Rows) : Type 0 where

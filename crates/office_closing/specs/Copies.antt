@@ -6,9 +6,9 @@ use Rattle.office_admission.specs.{Limits.most_partners, Setups.{SetupContent, s
 use Rattle.office_rows.specs.{ByKey.{AreListedOnce, lines_by}, Rows.{ListingContent, Rows}, Shown.AreNexts, Stored.HasRows, Tables.office_schema}
 use Rattle.office_loading.specs.Tables.{LoadsOwn}
 use Rattle.office_closing.specs.{Going.AreDone, declared.register.Segment.Segment, Changes.{closed_with, unmarked}, Lists.SettledListContent, Visits.IsCauseOf}
-use Rattle.office_closing.specs.{Register.{ArchiveContent, RegisterContent, register_content, last_closed, closed_by, is_newer_than}, Stored.HasRegister}
-use Rattle.office_closing.specs.{Sound.{is_sound, is_file_name, IsSound}, declared.faults.Refusal.Refusal, declared.comparing.Numbers.Numbers}
-use Rattle.office_closing.specs.{declared.planning.Opened.Opened, declared.planning.Stage.Stage, declared.visits.VisitFault.TheVariants.Differs}
+use Rattle.office_closing.specs.Register.{ArchiveContent, RegisterContent, SealedContent, register_content, last_closed, closed_by, is_newer_than, is_of_terminal}
+use Rattle.office_closing.specs.{Sound.{is_sound, is_file_name, IsSound}, Stored.HasRegister, declared.faults.Refusal.Refusal, declared.planning.Opened.Opened}
+use Rattle.office_closing.specs.{declared.comparing.Numbers.Numbers, declared.planning.Stage.Stage, declared.visits.VisitFault.TheVariants.Differs}
 use Rattle.office_parts.specs.OwnLists.{ListName}
 use Rattle.office_closing.specs.declared.faults.Refusal.TheVariants as refusal
 use Rattle.office_closing.specs.declared.planning.Stage.TheVariants as stage
@@ -30,7 +30,8 @@ office_content opened = record {
   register = register_content opened.register;
 }
 
--- the one database has this office beyond what is closed, and the other this register, which is of no later day
+-- the one database has this office beyond what is closed, and the other this register, which is of this terminal and of no later
+-- day
 pub record IsOpened (db register : Database) (content : OfficeContent) : Type 0 where
   pub sound : IsTrue (is_sound content.register)
   pub registered : (held : RegisterContent) → HasRegister held register → IsSound held → content.register ≡ held
@@ -38,6 +39,7 @@ pub record IsOpened (db register : Database) (content : OfficeContent) : Type 0 
       LoadsOwn (closed_by content.register) db content.setup content.terminal
   pub nexts : (rows : Rows) → HasRows rows db → AreNexts rows content.nexts
   pub of_day : is_newer_than content.nexts content.register ≡ false
+  pub of_terminal : IsTrue (is_of_terminal content.setup.terminal content.register)
 
 -- ---- what an archive closes
 
@@ -72,10 +74,11 @@ archive_in file copy = record {
 abbrev pub segments_in : List ℕ → OfficeContent → List Segment
 segments_in file copy = segments_of (archive_in file copy).place (numbers_of copy)
 
--- the store's register with this archive, the lists that are put away with it, and what the store had taken
-abbrev pub raised_by : List ℕ → List SettledListContent → List Segment → OfficeContent → RegisterContent
-raised_by file lists taken copy =
-    closed_with (archive_in file copy) (segments_in file copy) lists taken (unmarked copy.register)
+-- the store's register with this archive, the lists that are put away with it, what the store had taken, and what is sealed
+abbrev pub raised_by : List ℕ → List SettledListContent → List Segment → List SealedContent → OfficeContent →
+    RegisterContent
+raised_by file lists taken sealed copy =
+    closed_with (archive_in file copy) (segments_in file copy) lists taken sealed (unmarked copy.register)
 
 -- ---- what was taken
 
@@ -91,6 +94,21 @@ abbrev pub taken_at : OfficeContent → (archive : ℕ) → Stage → List Segme
 taken_at own archive stage.New = taken_of archive own.nexts
 taken_at own archive stage.Marked = taken_of archive own.nexts
 taken_at own archive stage.Raised = filter (is_with archive) own.register.taken
+
+-- ---- what is sealed
+
+abbrev pub is_sealed_with : ℕ → SealedContent → Bool
+is_sealed_with archive sealed = sealed.archive == archive
+
+-- what is sealed with an archive by these seals
+abbrev pub sealed_by : OfficeContent → (archive : ℕ) → (seals : List ℕ) → List SealedContent
+sealed_by own archive seals = (record { archive = archive; terminal = own.setup.terminal; seals = seals }) ∷ []
+
+-- the same, or what the store's register has with it already
+abbrev pub sealed_at : OfficeContent → (archive : ℕ) → (seals : List ℕ) → Stage → List SealedContent
+sealed_at own archive seals stage.New = sealed_by own archive seals
+sealed_at own archive seals stage.Marked = sealed_by own archive seals
+sealed_at own archive seals stage.Raised = filter (is_sealed_with archive) own.register.sealed
 
 -- by the registers and the archive's rows a closing begins with the archive, and closes no number
 pub record ClosesNone (register copied : RegisterContent) (copy : Rows) : Type 0 where
@@ -161,13 +179,14 @@ HasCome own copy names lists stage.New =
 HasCome own copy names lists stage.Marked =
     (unmarked copy.register ≡ own.register) × (copy.register.closed_for ≡ Some names.store)
 HasCome own copy names lists stage.Raised =
-    (raised_by names.archive lists (taken_at own (archive_in names.archive copy).place stage.Raised) copy ≡ own.register)
+    (raised_by names.archive lists (taken_at own (archive_in names.archive copy).place stage.Raised)
+    (sealed_at own (archive_in names.archive copy).place [] stage.Raised) copy ≡ own.register)
     × (copy.register.closed_for ≡ Some names.store)
 
 -- the store's register may have the archive and these, and the archive's be marked
 pub record MayBeRaised (copy : OfficeContent) (names : FileNames) (lists : List SettledListContent)
-    (taken : List Segment) : Type 0 where
-  pub raised : IsTrue (is_sound (raised_by names.archive lists taken copy))
+    (taken : List Segment) (sealed : List SealedContent) : Type 0 where
+  pub raised : IsTrue (is_sound (raised_by names.archive lists taken sealed copy))
   pub mark : IsTrue (is_file_name names.store)
 
 -- the archive is of the store's terminal and of no later day, and the store no archive itself
@@ -176,11 +195,12 @@ pub record IsOfStore (own copy : OfficeContent) : Type 0 where
   pub office : IsSameOffice own copy
   pub no_later : IsNoLater own copy
 
--- the closing has come so far, with these lists, and may go on
+-- the closing has come so far, with these lists, and may go on, with whatever seals
 pub record ComesOn (own copy : OfficeContent) (names : FileNames) (lists : List SettledListContent) (come : Stage)
     : Type 0 where
   pub has_come : HasCome own copy names lists come
   pub may : MayBeRaised copy names lists (taken_at own (archive_in names.archive copy).place come)
+      (sealed_at own (archive_in names.archive copy).place [] come)
 
 -- the archive is a copy of the store, and the closing has come so far
 pub record IsCopy (own copy : OfficeContent) (names : FileNames) (lists : List SettledListContent) (come : Stage)
@@ -205,4 +225,5 @@ IsReason own copy names refusal.Later = ¬ IsNoLater own copy
 IsReason own copy names refusal.Register = ComesToNone own copy names
 IsReason own copy names (refusal.Visit number) = IsCauseOf own.terminal.visits copy.terminal.visits (Differs number)
 IsReason own copy names refusal.Order = ⊥
+IsReason own copy names refusal.Seals = ⊥
 IsReason own copy names (refusal.Interchange difference) = ⊥

@@ -27,3 +27,4 @@ pub mod Going
 pub mod DoneListLaws
 pub mod Waiting
 pub mod Texts
+pub mod Seals

@@ -1,6 +1,6 @@
 -- Lists that were put away: with which archive, and their lines.
-use Rattle.std.specs.{Prelude.{ℕ, ◌==◌, ◌&&◌, Bool, List, [], ◌∷◌, fold, if◌then◌else◌, Option, None, Some, string_bytes}, declared.cmp.Ordering.Ordering}
-use Rattle.std.specs.{Ordering.{is_lt, nat_cmp, ordering_then}, Cmp.Lexicographic.slice_cmp, Str.bytes_eq}
+use Rattle.std.specs.{Prelude.{ℕ, ◌==◌, ◌&&◌, nat_le, Bool, List, [], ◌∷◌, filter, fold, if◌then◌else◌, Option, None, Some, string_bytes}, Str.bytes_eq}
+use Rattle.std.specs.{declared.cmp.Ordering.Ordering, Ordering.{is_lt, nat_cmp, ordering_then}, Cmp.Lexicographic.slice_cmp}
 use Rattle.edi_messages.specs.{Owned.call_content, Purposes.CallContent}
 use Rattle.terminal_core.specs.{State.side_code, declared.lines.Side.Side}
 use Rattle.office_closing.specs.declared.settled_lists.SettledList.{SettledList}
@@ -28,6 +28,13 @@ is_of_list call side list =
 abbrev pub lines_of_list : List SettledListContent → CallContent → Side → Option (List ℕ)
 lines_of_list lists call side =
     fold (λ found list. if is_of_list call side list then Some list.lines else found) None lists
+
+-- it was put away with one of the first so many archives
+abbrev pub is_among : (count : ℕ) → SettledListContent → Bool
+is_among count list = nat_le list.archive count
+
+abbrev pub lists_among : (count : ℕ) → List SettledListContent → List SettledListContent
+lists_among count lists = filter (is_among count) lists
 
 -- ---- their order
 

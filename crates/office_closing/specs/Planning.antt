@@ -1,10 +1,11 @@
 -- What a closing is to do, as the opened offices and their registers tell.
-use Rattle.std.specs.Prelude.{◌≡◌, ◌≢◌, ◌↔◌, ℕ, Bool, true, Option, None, Some, List, Contains, filter, map}
+use Rattle.std.specs.Prelude.{◌≡◌, ◌≢◌, ◌↔◌, ℕ, Bool, true, Option, None, Some, List, [], Contains, filter, map}
 use Rattle.office_parts.specs.OwnLists.{ListName}
-use Rattle.office_closing.specs.{Changes.unmarked, Lists.{SettledListContent, list_content}, Register.archive_content, declared.register.Segment.Segment}
-use Rattle.office_closing.specs.{declared.faults.CloseFault.CloseFault, declared.planning.ClosingLists.ClosingLists, declared.planning.History.History}
-use Rattle.office_closing.specs.{declared.planning.Mark.Mark, declared.planning.Plan.Plan, declared.planning.Stage.Stage, Visits.AreToGo}
-use Rattle.office_closing.specs.Copies.{AreDoneIn, ComesOn, FileNames, IsCopy, IsReason, OfficeContent, archive_in, is_put_away_with, is_with, lists_at, numbers_of, segments_in, segments_of, taken_at, taken_of}
+use Rattle.office_closing.specs.{Changes.unmarked, Lists.{SettledListContent, list_content}, Register.{SealedContent, archive_content, sealed_content}}
+use Rattle.office_closing.specs.{declared.register.Segment.Segment, declared.faults.CloseFault.CloseFault, declared.planning.ClosingLists.ClosingLists}
+use Rattle.office_closing.specs.{declared.planning.History.History, declared.planning.Mark.Mark, declared.planning.Plan.Plan, declared.planning.Stage.Stage}
+use Rattle.office_closing.specs.Copies.{AreDoneIn, ComesOn, FileNames, IsCopy, IsReason, OfficeContent, archive_in, is_put_away_with, is_sealed_with, is_with, lists_at, numbers_of, segments_in, segments_of, sealed_at, sealed_by, taken_at, taken_of}
+use Rattle.office_closing.specs.Visits.{AreToGo}
 use Rattle.office_closing.specs.declared.faults.CloseFault.TheVariants as fault
 use Rattle.office_closing.specs.declared.faults.Refusal.TheVariants as refusal
 use Rattle.office_closing.specs.declared.planning.Mark.TheVariants as mark
@@ -21,14 +22,22 @@ pub record IsTakenFor (own copy : OfficeContent) (archive : ℕ) (taken : List S
   pub same : unmarked copy.register ≡ unmarked own.register → taken ≡ taken_of archive own.nexts
   pub other : unmarked copy.register ≢ unmarked own.register → taken ≡ filter (is_with archive) own.register.taken
 
+-- this is what is sealed with it, as yet without seals, if the registers name the same archives, and else what the store's has
+-- with this one
+pub record IsSealedFor (own copy : OfficeContent) (archive : ℕ) (sealed : List SealedContent) : Type 0 where
+  pub same : unmarked copy.register ≡ unmarked own.register → sealed ≡ sealed_by own archive []
+  pub other : unmarked copy.register ≢ unmarked own.register
+      → sealed ≡ filter (is_sealed_with archive) own.register.sealed
+
 -- these are what both have
 abbrev pub AreInBoth : (ones others both : List SettledListContent) → Type 0
 AreInBoth ones others both =
     (list : SettledListContent) → Contains both list ↔ (Contains ones list × Contains others list)
 
 -- The archive is a copy, and this is what it closes, which visits go and which lists: those that are done, if the register has
--- them so.
-pub record IsPlan (own copy : OfficeContent) (names : FileNames) (named : List ListName) (plan : Plan) : Type 0 where
+-- them so. These are the seals that it gets.
+pub record IsPlan (own copy : OfficeContent) (names : FileNames) (named : List ListName) (seals : List ℕ) (plan : Plan)
+    : Type 0 where
   pub is_copy : IsCopy own copy names (map list_content plan.lists.items) plan.stage
   pub numbers : plan.numbers.items ≡ numbers_of copy
   pub archive : archive_content plan.archive ≡ archive_in names.archive copy
@@ -41,6 +50,8 @@ pub record IsPlan (own copy : OfficeContent) (names : FileNames) (named : List L
       ≡ lists_at own (archive_in names.archive copy).place done plan.stage
   pub gone : AreInBoth done (map list_content plan.lists.items) (map list_content plan.gone.items)
   pub taken : plan.taken.items ≡ taken_at own (archive_in names.archive copy).place plan.stage
+  pub sealed : map sealed_content plan.sealed.items
+      ≡ sealed_at own (archive_in names.archive copy).place seals plan.stage
 
 -- ---- its parts
 
@@ -51,6 +62,7 @@ pub record IsHistory (own copy : OfficeContent) (file : List ℕ) (history : His
   pub segments : history.segments.items ≡ segments_of (archive_in file copy).place (numbers_of copy)
   pub visits : AreToGo own.terminal.visits copy.terminal.visits history.visits.items
   pub taken : IsTakenFor own copy (archive_in file copy).place history.taken.items
+  pub sealed : IsSealedFor own copy (archive_in file copy).place (map sealed_content history.sealed.items)
 
 -- the lists that the register has with the archive, and those of them that are done
 pub record AreClosingLists (own copy : OfficeContent) (named : List ListName) (segments : List Segment) (archive : ℕ)
@@ -67,6 +79,7 @@ pub record IsPlanOf (history : History) (closed : ClosingLists) (come : Stage) (
   pub archive : archive_content plan.archive ≡ archive_content history.archive
   pub segments : plan.segments.items ≡ history.segments.items
   pub taken : plan.taken.items ≡ history.taken.items
+  pub sealed : plan.sealed.items ≡ history.sealed.items
   pub lists : plan.lists.items ≡ closed.all.items
   pub gone : plan.gone.items ≡ closed.gone.items
   pub stage : plan.stage ≡ come

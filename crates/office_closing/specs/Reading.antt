@@ -1,12 +1,13 @@
 -- What the columns of a register's rows say, and what reading them answers.
 use Rattle.std.specs.{Prelude.{◌≡◌, ℕ, ◌<◌, ◌^◌, List, [], ◌∷◌, map, IfSome, IsUtf8, Option, Result, Ok, Err, String, string_bytes}, Option.option_map}
 use Rattle.std.specs.List.{AllByRecursion}
-use Rattle.sqlite.specs.{Order.Row, Effect.Database}
+use Rattle.sqlite.specs.{Order.Row, declared.types.Value.Value, declared.types.Value.TheVariants.Blob, Effect.Database}
 use Rattle.office_rows.specs.Shown.{ShowsTable, columns_at}
 use Rattle.office_tables.specs.{declared.table_fault.TableFault.TableFault, Faults.IsOfStoreOr}
-use Rattle.office_closing.specs.{declared.register.Register.Register, declared.register.Segment.Segment, declared.register_rows.ClosedFor.ClosedFor, Lists.SettledListContent, Sound.IsSound}
-use Rattle.office_closing.specs.{Register.{ArchiveContent, RegisterContent, register_content}, Tables.{archive_table, segment_table, closed_for_table, Layout}}
-use Rattle.office_closing.specs.Stored.{ShowsLists, ShowsRegister, archive_values, segment_values, file_values, list_values, if_any}
+use Rattle.office_closing.specs.{declared.register.Register.Register, declared.register.Segment.Segment, declared.register_rows.ClosedFor.ClosedFor}
+use Rattle.office_closing.specs.{Lists.SettledListContent, Sound.IsSound, Register.{ArchiveContent, RegisterContent, register_content, SealedContent}}
+use Rattle.office_closing.specs.Tables.{archive_table, segment_table, closed_for_table, Layout}
+use Rattle.office_closing.specs.Stored.{ShowsLists, ShowsRegister, archive_values, segment_values, file_values, list_values, if_any, sealed_values}
 
 -- ---- what no caller has to read: which rows fit the types of a record
 
@@ -26,6 +27,10 @@ pub record FitsList (list : SettledListContent) : Type 0 where
   pub archive : list.archive < 2 ^ 16
   pub lines : IsUtf8 list.lines
 
+pub record FitsSealed (sealed : SealedContent) : Type 0 where
+  pub archive : sealed.archive < 2 ^ 16
+  pub terminal : IsUtf8 sealed.terminal
+
 abbrev pub SaysArchive : Row → ArchiveContent → Type 0
 SaysArchive row archive = (columns_at (0 ∷ 1 ∷ 2 ∷ []) row ≡ archive_values archive) × FitsArchive archive
 
@@ -41,6 +46,12 @@ SaysFile row file = (columns_at (0 ∷ []) row ≡ file_values file) × IsUtf8 f
 
 abbrev pub SaysList : Row → SettledListContent → Type 0
 SaysList row list = (columns_at (0 ∷ 1 ∷ 2 ∷ 3 ∷ 4 ∷ []) row ≡ list_values list) × FitsList list
+
+abbrev pub SaysBytes : Value → List ℕ → Type 0
+SaysBytes value bytes = value ≡ Blob bytes
+
+abbrev pub SaysSealed : Row → SealedContent → Type 0
+SaysSealed row sealed = (columns_at (0 ∷ 1 ∷ 2 ∷ []) row ≡ sealed_values sealed) × FitsSealed sealed
 
 abbrev pub ShowsArchives : Database → List ArchiveContent → Type 0
 ShowsArchives db archives = ShowsTable archive_table (0 ∷ 1 ∷ 2 ∷ []) (0 ∷ []) db (map archive_values archives)
@@ -67,6 +78,7 @@ pub record FitsRegister (content : RegisterContent) : Type 0 where
   pub closed_for : IfSome content.closed_for IsUtf8
   pub lists : AllByRecursion FitsList content.lists
   pub taken : AllByRecursion FitsSegment content.taken
+  pub sealed : AllByRecursion FitsSealed content.sealed
 
 -- no register that the tables show fits; or the store failed, or memory
 abbrev pub FailsTables : Layout → Database → TableFault → Type 0

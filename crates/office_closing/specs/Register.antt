@@ -1,15 +1,21 @@
 -- What a register of archives says: which archives hold a store's history, and which numbers each of them closed.
 use Rattle.std.specs.Prelude.{ℕ, ◌==◌, ◌&&◌, nat_le, max, Bool, List, [], ◌∷◌, map, find, fold, get_or, if◌then◌else◌, nat_lt, not, Option, string_bytes}
-use Rattle.std.specs.{List.list_any, Option.option_map}
+use Rattle.std.specs.{List.{list_all, list_any}, Option.option_map, Str.bytes_eq}
 use Rattle.office_loading.specs.Closed.{ClosedContent}
 use Rattle.office_closing.specs.{declared.register.Archive.Archive, declared.register.Register.Register, declared.register.Segment.Segment}
-use Rattle.office_closing.specs.Lists.{SettledListContent, list_content}
+use Rattle.office_closing.specs.{declared.sealed_archives.SealedArchive.SealedArchive, Lists.{SettledListContent, list_content}}
 
 -- an archive: its place in the order of closing, the name of its file, the number of its newest visit
 pub record ArchiveContent : Type 0 where
   pub place : ℕ
   pub file : List ℕ
   pub visits : ℕ
+
+-- what was sealed with an archive: the terminal's code, and the seals of what it closes
+pub record SealedContent : Type 0 where
+  pub archive : ℕ
+  pub terminal : List ℕ
+  pub seals : List ℕ
 
 pub record RegisterContent : Type 0 where
   pub archives : List ArchiveContent
@@ -19,12 +25,17 @@ pub record RegisterContent : Type 0 where
   pub lists : List SettledListContent
   -- as an archive was closed, a partner's numbers had been taken up to the last one of its segment here
   pub taken : List Segment
+  pub sealed : List SealedContent
   -- in an archive's own register: the file of the store that goes on
   pub closed_for : Option (List ℕ)
 
 abbrev pub archive_content : Archive → ArchiveContent
 archive_content archive =
     record { place = archive.place; file = string_bytes archive.file; visits = archive.visits }
+
+abbrev pub sealed_content : SealedArchive → SealedContent
+sealed_content sealed =
+    record { archive = sealed.archive; terminal = string_bytes sealed.terminal; seals = sealed.seals.items }
 
 abbrev pub register_content : Register → RegisterContent
 register_content register =
@@ -33,6 +44,7 @@ register_content register =
       segments = register.segments.items;
       lists = map list_content register.lists.items;
       taken = register.taken.items;
+      sealed = map sealed_content register.sealed.items;
       closed_for = option_map string_bytes register.closed_for;
     }
 
@@ -71,6 +83,10 @@ is_passed nexts segment = nat_lt segment.last (next_of nexts segment.partner)
 -- accounts, still awaits: the store is of a day before that.
 abbrev pub is_newer_than : List ℕ → RegisterContent → Bool
 is_newer_than nexts content = list_any (λ segment. not (is_passed nexts segment)) content.taken
+
+-- it is of a store of the terminal with this code: no archive was sealed with another
+abbrev pub is_of_terminal : List ℕ → RegisterContent → Bool
+is_of_terminal code content = list_all (λ (one : SealedContent). bytes_eq one.terminal code) content.sealed
 
 -- what is closed of the store, as its opening asks for it
 abbrev pub closed_by : RegisterContent → ClosedContent

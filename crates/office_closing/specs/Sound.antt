@@ -5,7 +5,7 @@ use Rattle.edi_messages.specs.Texts.{is_name}
 use Rattle.edi_syntax.specs.Numbers.{last_number}
 use Rattle.office_admission.specs.Limits.{most_partners, most_visits}
 use Rattle.office_closing.specs.{declared.register.Segment.Segment, Lists.{SettledListContent, comes_before}}
-use Rattle.office_closing.specs.Register.{ArchiveContent, RegisterContent, last_closed}
+use Rattle.office_closing.specs.Register.{ArchiveContent, RegisterContent, SealedContent, last_closed}
 
 -- the most archives that a store may have
 abbrev pub most_archives : ℕ
@@ -87,6 +87,19 @@ abbrev pub are_rising : Option SettledListContent → List SettledListContent �
 are_rising before [] = true
 are_rising before (list ∷ lists) = comes_after before list && are_rising (Some list) lists
 
+-- ---- seals
+
+-- with one of so many archives, of a terminal that has a name
+abbrev pub may_be_sealed : ℕ → SealedContent → Bool
+may_be_sealed archives sealed =
+    (nat_le 1 sealed.archive && nat_le sealed.archive archives) && is_name sealed.terminal
+
+-- each with an archive after this one and those before it
+abbrev pub are_sealed_in_turn : ℕ → List SealedContent → Bool
+are_sealed_in_turn archive [] = true
+are_sealed_in_turn archive (sealed ∷ others) =
+    nat_lt archive sealed.archive && are_sealed_in_turn sealed.archive others
+
 -- ---- all of it
 
 abbrev pub are_sound_archives : List ArchiveContent → Bool
@@ -104,6 +117,9 @@ are_sound_taken archives taken = list_all (is_within archives) taken && are_in_o
 abbrev pub are_sound_lists : ℕ → List SettledListContent → Bool
 are_sound_lists archives lists = list_all (may_be_list archives) lists && are_rising None lists
 
+abbrev pub are_sound_sealed : ℕ → List SealedContent → Bool
+are_sound_sealed archives sealed = list_all (may_be_sealed archives) sealed && are_sealed_in_turn 0 sealed
+
 abbrev pub is_sound_mark : Option (List ℕ) → Bool
 is_sound_mark None = true
 is_sound_mark (Some file) = is_file_name file
@@ -113,7 +129,8 @@ is_sound content =
     are_sound_archives content.archives
     && (are_sound_segments (length content.archives) content.segments
     && (are_sound_lists (length content.archives) content.lists
-    && (are_sound_taken (length content.archives) content.taken && is_sound_mark content.closed_for)))
+    && (are_sound_taken (length content.archives) content.taken
+    && (are_sound_sealed (length content.archives) content.sealed && is_sound_mark content.closed_for))))
 
 -- the names of its files are texts, and the lines of its lists
 pub record HasTexts (content : RegisterContent) : Type 0 where

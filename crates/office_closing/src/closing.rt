@@ -1,10 +1,10 @@
 ghost use Rattle.std.specs.Prelude.{◌≡◌, ◌<◌, ◌≤◌, ◌+◌, ◌-◌, [], ◌∷◌, false, map, min, true, IfOk, IfErr};
 ghost use Rattle.edi_messages.specs.Owned.{call_content};
-ghost use Rattle.office_closing.specs.{Clearing.{Clears, most_at_once, IsWithoutSome, IsWithoutSomeLists, IsWithoutSomeVisits}, Files.{AreClean, AreIdle, files}};
-ghost use Rattle.office_closing.specs.{Closes.{ArePutAway, Closes, IsLeft, cleared, closing_content}, Judging.AreResting, Refusing.IsFileOf};
+ghost use Rattle.office_closing.specs.{Clearing.{Clears, most_at_once, IsWithoutSome, IsWithoutSomeLists, IsWithoutSomeVisits}, Judging.AreResting};
+ghost use Rattle.office_closing.specs.{Files.{AreClean, AreIdle, files}, Closes.{ArePutAway, Closes, IsLeft, cleared, closing_content}, Refusing.IsFileOf};
 ghost use Rattle.office_closing.specs.{Deleting.{Deletes, all_but, goes, is_one_of, without_interchange, without_visits}, Lists.list_content};
 ghost use Rattle.office_closing.specs.{Steps.{StepsIf, is_unmarked, is_unraised}, Changes.{closed_with, marked_for, unchanged, unmarked}};
-ghost use Rattle.office_closing.specs.Register.{archive_content};
+ghost use Rattle.office_closing.specs.Register.{archive_content, sealed_content};
 ghost use Rattle.office_parts.specs.{Bringing.is_list, OwnLists.{list_name, rows_without_lists}, LeftOver.rows_without};
 ghost use Rattle.sqlite.specs.Held.{state};
 ghost use Rattle.office_closing.specs.declared.faults.CloseFault.TheVariants as close_fault;
@@ -13,8 +13,11 @@ use crate::comparing::Numbers;
 use crate::faults::{CloseFault, File, FileFault};
 use crate::judging::judge;
 use crate::planning::{Plan, PutAway, Stage, is_unmarked, is_unraised, put_away};
-use crate::{Archive, Segment, SettledList, characters, close_with, mark, side_code};
+use crate::{
+    Archive, SealedArchive, Segment, SettledList, characters, close_with, mark, side_code,
+};
 use edi_messages::Call;
+use office_loading::{Onlooker, Step};
 use office_tables::{TableFault, commit, integer};
 use sqlite::{Alter, Connection, Transaction};
 use std::alloc::Global;
@@ -25,8 +28,9 @@ use terminal_core::Side;
 ///
 /// If it was stopped, it goes on when it is called again with the same files. It changes nothing if the archive is refused.
 /// It answers what it puts away, with what went before it was stopped but for visits and lists that are gone.
-pub fn close<S: Alter, R: Alter, A: Alter, M: Alter>(
+pub fn close<S: Alter, R: Alter, A: Alter, M: Alter, O: Onlooker>(
     alloc: Global,
+    onlooker: &O,
     store: &mut Connection<S>,
     register: &mut Connection<R>,
     archive: &mut Connection<A>,
@@ -47,6 +51,7 @@ pub fn close<S: Alter, R: Alter, A: Alter, M: Alter>(
     check_idle(store, register, archive, archive_register);
     let plan = judge(
         alloc,
+        onlooker,
         store,
         register,
         archive,
@@ -56,7 +61,7 @@ pub fn close<S: Alter, R: Alter, A: Alter, M: Alter>(
     )?;
     mark_archive(archive_register, plan.stage, store_file)?;
     raise(register, &plan)?;
-    match clear_all(store, &plan) {
+    match clear_all(onlooker, store, &plan) {
         Ok(()) => Ok(put_away(plan)),
         Err(fault) => Err(not_written(File::Store, fault)),
     }
@@ -122,7 +127,8 @@ fn mark_now<S: Alter>(conn: &mut Connection<S>, store_file: &str) -> Result<(), 
 fn raise<S: Alter>(conn: &mut Connection<S>, plan: &Plan) -> Result<(), CloseFault>
     requires { (state S.Store conn.old).in_transaction ≡ false }
     ensures steps { StepsIf (is_unraised plan.now.stage) unchanged
-        (closed_with (archive_content plan.now.archive) plan.now.segments.items (map list_content plan.now.lists.items) plan.now.taken.items) (state S.Store conn.old)
+        (closed_with (archive_content plan.now.archive) plan.now.segments.items (map list_content plan.now.lists.items) plan.now.taken.items
+        (map sealed_content plan.now.sealed.items)) (state S.Store conn.old)
         (state S.Store conn.new) result }
     ensures file { IfErr result (IsFileOf File.Register) }
 {
@@ -134,40 +140,47 @@ fn raise<S: Alter>(conn: &mut Connection<S>, plan: &Plan) -> Result<(), CloseFau
             &plan.segments,
             &plan.lists,
             &plan.taken,
+            &plan.sealed,
         )
     } else {
         Ok(())
     }
 }
 
-/// Gives the store's register an archive with its segments and lists, and what had been taken.
+/// Gives the store's register an archive with its segments and lists, what had been taken, and what is sealed.
 fn raise_now<S: Alter>(
     conn: &mut Connection<S>,
     archive: &Archive,
     segments: &[Segment],
     lists: &[SettledList],
     taken: &[Segment],
+    sealed: &[SealedArchive],
 ) -> Result<(), CloseFault>
     requires { (state S.Store conn.old).in_transaction ≡ false }
-    ensures steps { StepsIf true unchanged (closed_with (archive_content archive.now) segments.now (map list_content lists.now) taken.now)
+    ensures steps { StepsIf true unchanged (closed_with (archive_content archive.now) segments.now (map list_content lists.now) taken.now
+        (map sealed_content sealed.now))
         (state S.Store conn.old) (state S.Store conn.new) result }
     ensures file { IfErr result (IsFileOf File.Register) }
 {
-    match close_with(conn, archive, segments, lists, taken) {
+    match close_with(conn, archive, segments, lists, taken, sealed) {
         Ok(()) => Ok(()),
         Err(fault) => Err(not_written(File::Register, fault)),
     }
 }
 
 /// Deletes all that goes from the store, in short transactions.
-fn clear_all<S: Alter>(conn: &mut Connection<S>, plan: &Plan) -> Result<(), TableFault>
+fn clear_all<S: Alter, O: Onlooker>(
+    onlooker: &O,
+    conn: &mut Connection<S>,
+    plan: &Plan,
+) -> Result<(), TableFault>
     requires { (state S.Store conn.old).in_transaction ≡ false }
     ensures clears { Clears (cleared (closing_content plan.now)) (IsLeft (closing_content plan.now))
         (state S.Store conn.old) (state S.Store conn.new) result }
 {
-    clear(conn, &plan.numbers)?;
-    clear_visits(conn, &plan.visits)?;
-    clear_lists(conn, &plan.gone)
+    clear(onlooker, conn, &plan.numbers)?;
+    clear_visits(onlooker, conn, &plan.visits)?;
+    clear_lists(onlooker, conn, &plan.gone)
 }
 
 /// The most interchanges that one transaction deletes.
@@ -175,7 +188,11 @@ const BATCH: u32 = 1000;
 
 /// Deletes the interchanges under these numbers, in short transactions. What was deleted stays so if it fails, and it may be
 /// called again.
-pub fn clear<S: Alter>(conn: &mut Connection<S>, closing: &[Numbers]) -> Result<(), TableFault>
+pub fn clear<S: Alter, O: Onlooker>(
+    onlooker: &O,
+    conn: &mut Connection<S>,
+    closing: &[Numbers],
+) -> Result<(), TableFault>
     requires idle { (state S.Store conn.old).in_transaction ≡ false }
     ensures clears { Clears (rows_without (goes closing.now)) (IsWithoutSome (goes closing.now)) (state S.Store conn.old)
         (state S.Store conn.new) result }
@@ -183,13 +200,17 @@ pub fn clear<S: Alter>(conn: &mut Connection<S>, closing: &[Numbers]) -> Result<
     let is_idle = conn.is_autocommit();
     prove!(is_idle);
     for numbers in closing {
-        clear_numbers(conn, *numbers)?;
+        clear_numbers(onlooker, conn, *numbers)?;
     }
     Ok(())
 }
 
 /// Deletes a partner's interchanges under its numbers.
-fn clear_numbers<S: Alter>(conn: &mut Connection<S>, numbers: Numbers) -> Result<(), TableFault>
+fn clear_numbers<S: Alter, O: Onlooker>(
+    onlooker: &O,
+    conn: &mut Connection<S>,
+    numbers: Numbers,
+) -> Result<(), TableFault>
     requires idle { (state S.Store conn.old).in_transaction ≡ false }
     ensures clears { Clears (rows_without (goes (numbers ∷ []))) (IsWithoutSome (goes (numbers ∷ [])))
         (state S.Store conn.old) (state S.Store conn.new) result }
@@ -205,6 +226,7 @@ fn clear_numbers<S: Alter>(conn: &mut Connection<S>, numbers: Numbers) -> Result
             to,
         };
         clear_batch(conn, batch)?;
+        onlooker.passed(Step::Deleting, (to - from) as usize);
         from = to;
     }
     Ok(())
@@ -249,7 +271,11 @@ fn delete_numbers<S: Alter>(tx: &mut Transaction<'_, S>, numbers: Numbers) -> Re
 
 /// Deletes the visits of these numbers, in short transactions. What was deleted stays so if it fails, and it may be called
 /// again.
-pub fn clear_visits<S: Alter>(conn: &mut Connection<S>, visits: &[u32]) -> Result<(), TableFault>
+pub fn clear_visits<S: Alter, O: Onlooker>(
+    onlooker: &O,
+    conn: &mut Connection<S>,
+    visits: &[u32],
+) -> Result<(), TableFault>
     requires idle { (state S.Store conn.old).in_transaction ≡ false }
     ensures clears { Clears (without_visits visits.now) (IsWithoutSomeVisits (all_but visits.now)) (state S.Store conn.old)
         (state S.Store conn.new) result }
@@ -260,6 +286,7 @@ pub fn clear_visits<S: Alter>(conn: &mut Connection<S>, visits: &[u32]) -> Resul
     while !rest.is_empty() {
         let (batch, behind) = rest.split_at(visit_batch(rest.len()));
         clear_visit_batch(conn, batch)?;
+        onlooker.passed(Step::Deleting, batch.len());
         rest = behind;
     }
     Ok(())
@@ -302,7 +329,8 @@ fn delete_visits<S: Alter>(tx: &mut Transaction<'_, S>, visits: &[u32]) -> Resul
 
 /// Deletes the lines of these lists, those of each in a transaction. What was deleted stays so if it fails, and it may be called
 /// again.
-pub fn clear_lists<S: Alter>(
+pub fn clear_lists<S: Alter, O: Onlooker>(
+    onlooker: &O,
     conn: &mut Connection<S>,
     lists: &[SettledList],
 ) -> Result<(), TableFault>
@@ -315,6 +343,7 @@ pub fn clear_lists<S: Alter>(
     prove!(is_idle);
     for list in lists {
         clear_list(conn, list)?;
+        onlooker.passed(Step::Deleting, 1);
     }
     Ok(())
 }

@@ -1,13 +1,17 @@
-ghost use Rattle.std.specs.Prelude.{◌≡◌, ◌↔◌, [], ◌∷◌, true, IfOk, IfErr};
-ghost use Rattle.office_closing.specs.{Comparing.{HasUnfitAmong, IsComparedAs, IsOfEither, IsSameKept, IsToldAlike}, Files.{IsRead, IsReadIfOpen}};
+ghost use Rattle.std.specs.Prelude.{◌≡◌, ◌↔◌, [], ◌∷◌, true, IfOk, IfErr, IfSome, None, OnOk, is_ok};
+ghost use Rattle.office_closing.specs.{Seals.{HoldsSealing, SealingContent, add_any, kept_at, seals_of, with_kept}, Files.{IsRead, IsReadIfOpen}};
+ghost use Rattle.office_closing.specs.Comparing.{HasUnfitAmong, IsComparedAs, IsOfEither, IsSameKept, IsToldAlike, difference_in, seals_in};
 ghost use Rattle.office_history.specs.After.{AreKeptOnce};
 ghost use Rattle.office_rows.specs.{Rows.Rows, Stored.HasRows};
 ghost use Rattle.office_tables.specs.{Answers.{HasUnfitReply, IsKept}, Faults.IsOfStoreOr};
 ghost use Rattle.sqlite.specs.{Held.state, State.HasCleanDisk};
 
 use crate::faults::{File, FileFault};
+use crate::sealing::Sealing;
+use office_loading::{Onlooker, Step};
 use office_tables::{Kept, TableFault, kept};
 use sqlite::{Alter, Connection};
+use std::alloc::{AllocError, Global};
 
 /// Numbers of a partner that a closing closes: each above `from` and up to `to`.
 #[derive(Clone, Copy, Debug)]
@@ -29,41 +33,69 @@ pub struct Difference {
     pub number: u32,
 }
 
+/// What store and archive keep under some numbers.
+#[derive(Debug, Drop)]
+pub enum Compared {
+    /// The same; and its seals.
+    Alike(Vec<u8>),
+    /// Under one of them not the same.
+    Differs(Difference),
+}
+
 /// Compares, number by number, the text and the reply that an archive keeps with those that the store keeps, up to the
-/// first that differs. It changes neither.
-pub fn compare<S: Alter, A: Alter>(
+/// first that differs, and seals them, while somebody looks on. It changes neither.
+pub fn compare<S: Alter, A: Alter, O: Onlooker>(
+    alloc: Global,
+    onlooker: &O,
     store: &mut Connection<S>,
     archive: &mut Connection<A>,
     closing: &[Numbers],
-) -> Result<Option<Difference>, FileFault>
+) -> Result<Compared, FileFault>
     ensures compared { HasCleanDisk (state S.Store store.new) → HasCleanDisk (state A.Store archive.new) →
         IfOk result (λ found. (own copy : Rows) → HasRows own (state S.Store store.old).now →
         HasRows copy (state A.Store archive.old).now → AreKeptOnce own.interchanges → AreKeptOnce copy.interchanges →
-        IsComparedAs closing.now own copy found) }
+        IsComparedAs closing.now own copy (difference_in found)) }
+    ensures sealed { HasCleanDisk (state S.Store store.new) → HasCleanDisk (state A.Store archive.new) →
+        IfOk result (λ found. IfSome (seals_in found) (λ seals. (copy : Rows) →
+        HasRows copy (state A.Store archive.old).now → AreKeptOnce copy.interchanges →
+        seals ≡ seals_of copy closing.now)) }
     ensures fault { HasCleanDisk (state S.Store store.new) → HasCleanDisk (state A.Store archive.new) →
         IfErr result (λ fault. (own copy : Rows) → HasRows own (state S.Store store.old).now →
         HasRows copy (state A.Store archive.old).now → IsOfEither (HasUnfitAmong closing.now own) (HasUnfitAmong closing.now copy) fault) }
     ensures store_reads { IsReadIfOpen (state S.Store store.old) (state S.Store store.new) result }
     ensures archive_reads { IsReadIfOpen (state A.Store archive.old) (state A.Store archive.new) result }
 {
+    let mut sealing = Sealing::new(alloc);
     for numbers in closing {
-        if let Some(difference) = compare_numbers(store, archive, *numbers)? {
-            return Ok(Some(difference));
+        if let Some(difference) = compare_numbers(
+            onlooker,
+            store,
+            archive,
+            *numbers,
+            &mut sealing,
+        )? {
+            return Ok(Compared::Differs(difference));
         }
     }
-    Ok(None)
+    Ok(Compared::Alike(sealing.into_seals()))
 }
 
-/// The same of one partner's numbers.
-fn compare_numbers<S: Alter, A: Alter>(
+/// Compares those under one partner's numbers, and adds them to what is sealed.
+fn compare_numbers<S: Alter, A: Alter, O: Onlooker>(
+    onlooker: &O,
     store: &mut Connection<S>,
     archive: &mut Connection<A>,
     numbers: Numbers,
+    sealing: &mut Sealing,
 ) -> Result<Option<Difference>, FileFault>
     ensures compared { HasCleanDisk (state S.Store store.new) → HasCleanDisk (state A.Store archive.new) →
         IfOk result (λ found. (own copy : Rows) → HasRows own (state S.Store store.old).now →
         HasRows copy (state A.Store archive.old).now → AreKeptOnce own.interchanges → AreKeptOnce copy.interchanges →
         IsComparedAs (numbers ∷ []) own copy found) }
+    ensures sealed { HasCleanDisk (state S.Store store.new) → HasCleanDisk (state A.Store archive.new) →
+        IfOk result (λ found. found ≡ None → (copy : Rows) → HasRows copy (state A.Store archive.old).now →
+        AreKeptOnce copy.interchanges → (sealed : SealingContent) → HoldsSealing sealing.old sealed →
+        HoldsSealing sealing.new (with_kept copy sealed numbers)) }
     ensures fault { HasCleanDisk (state S.Store store.new) → HasCleanDisk (state A.Store archive.new) →
         IfErr result (λ fault. (own copy : Rows) → HasRows own (state S.Store store.old).now →
         HasRows copy (state A.Store archive.old).now → IsOfEither (HasUnfitAmong (numbers ∷ []) own) (HasUnfitAmong (numbers ∷ []) copy) fault) }
@@ -73,27 +105,35 @@ fn compare_numbers<S: Alter, A: Alter>(
     let mut number = numbers.from;
     while number < numbers.to {
         number += 1;
-        if !is_kept_alike(store, archive, numbers.partner, number)? {
+        if !is_kept_alike(store, archive, numbers.partner, number, sealing)? {
             return Ok(Some(Difference {
                 partner: numbers.partner,
                 number,
             }));
         }
+        onlooker.passed(Step::Comparing, 1);
     }
+    sealed_in_memory(sealing.end_partner())?;
     Ok(None)
 }
 
-/// Whether an archive keeps the text and the reply that the store keeps under a partner's number.
+/// Whether an archive keeps the text and the reply that the store keeps under a partner's number. If so, they are
+/// added to what is sealed.
 fn is_kept_alike<S: Alter, A: Alter>(
     store: &mut Connection<S>,
     archive: &mut Connection<A>,
     partner: u16,
     number: u32,
+    sealing: &mut Sealing,
 ) -> Result<bool, FileFault>
     ensures alike { HasCleanDisk (state S.Store store.new) → HasCleanDisk (state A.Store archive.new) →
         IfOk result (λ alike. (own copy : Rows) → HasRows own (state S.Store store.old).now →
         HasRows copy (state A.Store archive.old).now → AreKeptOnce own.interchanges → AreKeptOnce copy.interchanges →
         ((alike ≡ true) ↔ IsToldAlike partner number own copy)) }
+    ensures sealed { HasCleanDisk (state S.Store store.new) → HasCleanDisk (state A.Store archive.new) →
+        IfOk result (λ alike. alike ≡ true → (copy : Rows) → HasRows copy (state A.Store archive.old).now →
+        AreKeptOnce copy.interchanges → (sealed : SealingContent) → HoldsSealing sealing.old sealed →
+        HoldsSealing sealing.new (add_any sealed (kept_at copy partner number))) }
     ensures fault { HasCleanDisk (state S.Store store.new) → HasCleanDisk (state A.Store archive.new) →
         IfErr result (λ fault. (own copy : Rows) → HasRows own (state S.Store store.old).now →
         HasRows copy (state A.Store archive.old).now →
@@ -103,7 +143,25 @@ fn is_kept_alike<S: Alter, A: Alter>(
 {
     let own = kept_in(store, File::Store, partner, number)?;
     let copy = kept_in(archive, File::Archive, partner, number)?;
-    Ok(is_same(&own, &copy))
+    if !is_same(&own, &copy) {
+        return Ok(false);
+    }
+    sealed_in_memory(sealing.add(&copy))?;
+    Ok(true)
+}
+
+/// Whether there was memory to seal what an archive keeps.
+fn sealed_in_memory(sealed: Result<(), AllocError>) -> Result<(), FileFault>
+    ensures ok { OnOk result (is_ok sealed ≡ true) }
+    ensures fault { IfErr result (IsOfEither ⊥ ⊥) }
+{
+    match sealed {
+        Ok(()) => Ok(()),
+        Err(_) => Err(FileFault {
+            file: File::Archive,
+            fault: TableFault::Memory,
+        }),
+    }
 }
 
 /// What a file keeps under a partner's number.

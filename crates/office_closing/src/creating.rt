@@ -1,6 +1,6 @@
 ghost use Rattle.std.specs.Prelude.{◌≡◌, [], ◌∷◌, take, false, OnOk, OnErr, IfErr, IsTrue};
 ghost use Rattle.office_closing.specs.{Changes.empty_register, Stored.HasWhole, Transactions.{Makes, IsMade}};
-ghost use Rattle.office_closing.specs.Tables.{register_tables, archive_table, segment_table, closed_for_table, settled_table, taken_table};
+ghost use Rattle.office_closing.specs.Tables.{register_tables, archive_table, segment_table, closed_for_table, settled_table, taken_table, sealed_table};
 ghost use Rattle.office_rows.specs.Stored.{HasEmpty};
 ghost use Rattle.office_tables.specs.{Faults.IsOfStore, Opened.AreMissing, Writes.Creates};
 ghost use Rattle.sqlite.specs.{Held.state, State.{HasCleanDisk, Survives}};
@@ -43,7 +43,8 @@ fn create_tables<S: Alter>(tx: &mut Transaction<'_, S>) -> Result<(), TableFault
     create_segment(tx)?;
     create_closed_for(tx)?;
     create_settled(tx)?;
-    create_taken(tx)
+    create_taken(tx)?;
+    create_sealed(tx)
 }
 
 fn create_archive<S: Alter>(tx: &mut Transaction<'_, S>) -> Result<(), TableFault>
@@ -94,14 +95,26 @@ fn create_settled<S: Alter>(tx: &mut Transaction<'_, S>) -> Result<(), TableFaul
     Ok(())
 }
 
-/// The last table, with which the tables are those of a register.
 fn create_taken<S: Alter>(tx: &mut Transaction<'_, S>) -> Result<(), TableFault>
     ensures same_reference { tx.new.conn.ghost_name ≡ tx.old.conn.ghost_name }
-    ensures creates { Creates (taken_table ∷ []) (HasEmpty (take 4 register_tables)) (HasWhole empty_register)
+    ensures creates { Creates (taken_table ∷ []) (HasEmpty (take 4 register_tables)) (HasEmpty (take 5 register_tables))
         (state S.Store tx.old.conn.now) (state S.Store tx.new.conn.now) result }
 {
     tx.execute(
         "CREATE TABLE taken (partner INTEGER NOT NULL, archive INTEGER NOT NULL, last INTEGER NOT NULL, PRIMARY KEY(partner, archive)) STRICT",
+        &[],
+    )?;
+    Ok(())
+}
+
+/// The last table, with which the tables are those of a register.
+fn create_sealed<S: Alter>(tx: &mut Transaction<'_, S>) -> Result<(), TableFault>
+    ensures same_reference { tx.new.conn.ghost_name ≡ tx.old.conn.ghost_name }
+    ensures creates { Creates (sealed_table ∷ []) (HasEmpty (take 5 register_tables)) (HasWhole empty_register)
+        (state S.Store tx.old.conn.now) (state S.Store tx.new.conn.now) result }
+{
+    tx.execute(
+        "CREATE TABLE sealed (archive INTEGER PRIMARY KEY, terminal TEXT NOT NULL, seals BLOB NOT NULL) STRICT",
         &[],
     )?;
     Ok(())

@@ -46,6 +46,8 @@ pub enum Refusal {
     Interchange(Difference),
     /// The texts that the archive has, closed or waiting, are not the first of the store's in the order in which they arrived, or not all of them, where all are wanted.
     Order,
+    /// The archive keeps something else than the store's register has sealed with it.
+    Seals,
     /// The visit of this number is over in the archive, and the store has another one.
     Visit(u32),
 }

@@ -1,10 +1,11 @@
-ghost use Rattle.std.specs.Prelude.{◌≡◌, ◌↔◌, ◌≤◌, ℕ, IfErr, IfOk, None, OnOk, IsTrue, length, map, false, true};
+ghost use Rattle.std.specs.{Prelude.{◌≡◌, ◌↔◌, ◌≤◌, ℕ, IfErr, IfOk, None, OnOk, IsTrue, length, map, false, true}, List.list_all, Str.bytes_eq};
 ghost use Rattle.office_loading.specs.{Closed.closed_content, Tables.{FailsToLoadOwn, LoadsOwn}};
 ghost use Rattle.office_closing.specs.{Arriving.{HasTexts, IsTold, StandInOrder}, Closes.{AreHeld, AreInTheirOrder, HasItsTexts, Held, Tells}};
 ghost use Rattle.office_closing.specs.{Comparing.IsComparedAs, Copies.{IsOpened, office_content}, Files.{AreClean, AreRead, IsRead, IsReadIfOpen, files}};
-ghost use Rattle.office_closing.specs.{Judging.{IsComparedIf, IsJudged, WantsAll}, Waiting.{AreWaitedFor, HaveNexts}, Sound.{IsSound, is_sound}};
-ghost use Rattle.office_closing.specs.{Refusing.{HasUnread, HaveNoNexts, IsOfComparing, IsOfOpening, IsOfOrdering, IsOfThis}, Stored.HasRegister};
-ghost use Rattle.office_closing.specs.Register.{RegisterContent, is_newer_than, last_closed, register_content};
+ghost use Rattle.office_closing.specs.{Judging.{IsComparedIf, IsJudged, IsOfSealing, IsSealedPlan, WantsAll}, Waiting.{AreWaitedFor, HaveNexts}};
+ghost use Rattle.office_closing.specs.{Refusing.{HasUnread, HaveNoNexts, IsOfComparing, IsOfOther, IsOfOpening, IsOfOrdering, IsOfThis}, Stored.HasRegister};
+ghost use Rattle.office_closing.specs.Register.{RegisterContent, SealedContent, is_newer_than, is_of_terminal, last_closed, register_content, sealed_content};
+ghost use Rattle.office_closing.specs.{Seals.{seals_of, with_seals}, Sound.{IsSound, is_sound}};
 ghost use Rattle.office_history.specs.After.{AreKeptOnce};
 ghost use Rattle.office_parts.specs.Named.{named_list_content};
 ghost use Rattle.office_rows.specs.{Rows.Rows, Shown.AreNexts, Stored.HasRows, Tables.office_schema};
@@ -14,21 +15,24 @@ ghost use Rattle.sqlite.specs.{Held.state, State.HasCleanDisk};
 ghost use Rattle.office_closing.specs.declared.faults.CloseFault.TheVariants as close_fault;
 
 use crate::arriving::{Likeness, likeness_of_texts};
-use crate::comparing::{Numbers, compare};
+use crate::comparing::{Compared, Numbers, compare};
 use crate::faults::{CloseFault, File, FileFault, Refusal};
 use crate::planning::{Opened, Plan, is_unraised, make_plan};
+use crate::sealed_archives::SealedArchive;
+use crate::sealing::seals_of;
 use crate::{Register, lists_waited_for, read_register};
 use office_admission::{MOST_PARTNERS, Setup};
-use office_loading::{Closed, load_own, nexts};
+use office_loading::{Closed, Onlooker, load_own, nexts};
 use office_parts::NamedList;
 use office_tables::TableFault;
 use sqlite::{Alter, Connection};
-use std::alloc::Global;
+use std::alloc::{AllocError, Global};
 use terminal_core::Terminal;
 
 /// What a closing is to do, if the archive is a copy of the store and keeps what goes. It changes none of the files.
-pub(crate) fn judge<S: Alter, R: Alter, A: Alter, M: Alter>(
+pub(crate) fn judge<S: Alter, R: Alter, A: Alter, M: Alter, O: Onlooker>(
     alloc: Global,
+    onlooker: &O,
     store: &mut Connection<S>,
     register: &mut Connection<R>,
     archive: &mut Connection<A>,
@@ -63,9 +67,10 @@ pub(crate) fn judge<S: Alter, R: Alter, A: Alter, M: Alter>(
     )?;
     let named = waited_for(alloc, store, &own)?;
     let plan = make_plan(alloc, &own, copy, &named, store_file, archive_file)?;
-    compare_all(store, archive, &plan)?;
+    let seals = compare_all(alloc, onlooker, store, archive, &plan)?;
     check_order(alloc, store, archive, &own, &plan)?;
-    Ok(plan)
+    let sealed = seal_plan(plan, seals)?;
+    Ok(sealed)
 }
 
 /// The store, or an archive, as its register says what is closed. It changes neither file.
@@ -91,6 +96,7 @@ pub(crate) fn open_office<S: Alter, R: Alter>(
     let told = register_of(alloc, register, register_is)?;
     let closed = told.closed(alloc)?;
     let (setup, terminal) = office_of(alloc, conn, &closed, conn_is)?;
+    check_terminal(&setup, &told, register_is)?;
     let nexts = nexts_of(alloc, conn, &told, conn_is)?;
     Ok(Opened {
         register: told,
@@ -137,6 +143,18 @@ fn office_of<S: Alter>(
         Ok(office) => Ok(office),
         Err(fault) => Err(CloseFault::File(FileFault { file, fault })),
     }
+}
+
+/// That the register in a file is of this set-up's terminal.
+fn check_terminal(setup: &Setup, told: &Register, file: File) -> Result<(), CloseFault>
+    ensures ok { OnOk result (is_of_terminal (setup_content setup.now).terminal (register_content told.now) ≡ true) }
+    ensures err { IfErr result (IsOfThis file (IsOfOther (setup_content setup.now).terminal (register_content told.now))) }
+{
+    if told.is_of_terminal(setup.terminal.as_str()) {
+        return Ok(());
+    }
+    let fault = TableFault::Damaged;
+    Err(CloseFault::File(FileFault { file, fault }))
 }
 
 /// The next numbers of the accounts in a file, which is of no day before its register.
@@ -197,16 +215,22 @@ fn of_store(fault: TableFault) -> CloseFault
     CloseFault::File(FileFault { file, fault })
 }
 
-/// That the archive keeps, under each number that this call closes, what the store keeps.
-fn compare_all<S: Alter, A: Alter>(
+/// That the archive keeps, under each number that this call closes, what the store keeps; and the seals of that. If the store's
+/// register has the archive already, only what the archive keeps is sealed.
+fn compare_all<S: Alter, A: Alter, O: Onlooker>(
+    alloc: Global,
+    onlooker: &O,
     store: &mut Connection<S>,
     archive: &mut Connection<A>,
     plan: &Plan,
-) -> Result<(), CloseFault>
+) -> Result<Vec<u8>, CloseFault>
     ensures compared { HasCleanDisk (state S.Store store.new) → HasCleanDisk (state A.Store archive.new) →
         OnOk result ((held : Held) → HasRows held.own (state S.Store store.old).now →
         HasRows held.copy (state A.Store archive.old).now → AreKeptOnce held.own.interchanges →
         AreKeptOnce held.copy.interchanges → IsComparedIf plan.now held) }
+    ensures sealed { HasCleanDisk (state S.Store store.new) → HasCleanDisk (state A.Store archive.new) →
+        IfOk result (λ seals. (copy : Rows) → HasRows copy (state A.Store archive.old).now →
+        AreKeptOnce copy.interchanges → seals.items ≡ seals_of copy plan.now.numbers.items) }
     ensures fault { HasCleanDisk (state S.Store store.new) → HasCleanDisk (state A.Store archive.new) →
         IfErr result (λ fault. (own copy : Rows) → HasRows own (state S.Store store.old).now →
         HasRows copy (state A.Store archive.old).now → AreKeptOnce own.interchanges → AreKeptOnce copy.interchanges →
@@ -216,22 +240,49 @@ fn compare_all<S: Alter, A: Alter>(
 {
     let is_due = is_unraised(plan.stage);
     if is_due {
-        compare_numbers(store, archive, &plan.numbers)
+        compare_numbers(alloc, onlooker, store, archive, &plan.numbers)
     } else {
-        Ok(())
+        seal_numbers(alloc, archive, &plan.numbers)
     }
 }
 
-/// That the archive keeps under these numbers what the store keeps.
-fn compare_numbers<S: Alter, A: Alter>(
+/// The seals of what the archive keeps under these numbers.
+fn seal_numbers<A: Alter>(
+    alloc: Global,
+    archive: &mut Connection<A>,
+    numbers: &[Numbers],
+) -> Result<Vec<u8>, CloseFault>
+    ensures sealed { HasCleanDisk (state A.Store archive.new) → IfOk result (λ seals. (copy : Rows) →
+        HasRows copy (state A.Store archive.old).now → AreKeptOnce copy.interchanges →
+        seals.items ≡ seals_of copy numbers.now) }
+    ensures fault { HasCleanDisk (state A.Store archive.new) → IfErr result (λ fault. (own copy : Rows) →
+        HasRows copy (state A.Store archive.old).now → IsOfComparing own copy fault) }
+    ensures archive_read { IsReadIfOpen (state A.Store archive.old) (state A.Store archive.new) result }
+{
+    match seals_of(alloc, archive, numbers) {
+        Ok(seals) => Ok(seals),
+        Err(fault) => {
+            let file = File::Archive;
+            Err(CloseFault::Comparing(FileFault { file, fault }))
+        }
+    }
+}
+
+/// That the archive keeps under these numbers what the store keeps; and the seals of that.
+fn compare_numbers<S: Alter, A: Alter, O: Onlooker>(
+    alloc: Global,
+    onlooker: &O,
     store: &mut Connection<S>,
     archive: &mut Connection<A>,
     numbers: &[Numbers],
-) -> Result<(), CloseFault>
+) -> Result<Vec<u8>, CloseFault>
     ensures compared { HasCleanDisk (state S.Store store.new) → HasCleanDisk (state A.Store archive.new) →
         OnOk result ((own copy : Rows) → HasRows own (state S.Store store.old).now →
         HasRows copy (state A.Store archive.old).now → AreKeptOnce own.interchanges → AreKeptOnce copy.interchanges →
         IsComparedAs numbers.now own copy None) }
+    ensures sealed { HasCleanDisk (state S.Store store.new) → HasCleanDisk (state A.Store archive.new) →
+        IfOk result (λ seals. (copy : Rows) → HasRows copy (state A.Store archive.old).now →
+        AreKeptOnce copy.interchanges → seals.items ≡ seals_of copy numbers.now) }
     ensures fault { HasCleanDisk (state S.Store store.new) → HasCleanDisk (state A.Store archive.new) →
         IfErr result (λ fault. (own copy : Rows) → HasRows own (state S.Store store.old).now →
         HasRows copy (state A.Store archive.old).now → AreKeptOnce own.interchanges → AreKeptOnce copy.interchanges →
@@ -239,11 +290,85 @@ fn compare_numbers<S: Alter, A: Alter>(
     ensures store_read { IsReadIfOpen (state S.Store store.old) (state S.Store store.new) result }
     ensures archive_read { IsReadIfOpen (state A.Store archive.old) (state A.Store archive.new) result }
 {
-    match compare(store, archive, numbers) {
-        Ok(None) => Ok(()),
-        Ok(Some(difference)) => Err(CloseFault::Archive(Refusal::Interchange(difference))),
+    match compare(alloc, onlooker, store, archive, numbers) {
+        Ok(Compared::Alike(seals)) => Ok(seals),
+        Ok(Compared::Differs(difference)) => {
+            Err(CloseFault::Archive(Refusal::Interchange(difference)))
+        }
         Err(fault) => Err(CloseFault::Comparing(fault)),
     }
+}
+
+/// The plan with the seals of what it closes. If the store's register has the archive already, they are those that it was
+/// sealed with, if it was.
+fn seal_plan(plan: Plan, seals: Vec<u8>) -> Result<Plan, CloseFault>
+    ensures ok { IfOk result (IsSealedPlan plan seals.items) }
+    ensures err { IfErr result (IsOfSealing plan seals.items) }
+{
+    let is_due = is_unraised(plan.stage);
+    if is_due {
+        return Ok(sealed_plan(plan, seals)?);
+    }
+    if are_sealed_as(&plan.sealed, &seals) {
+        Ok(plan)
+    } else {
+        Err(CloseFault::Archive(Refusal::Seals))
+    }
+}
+
+/// The plan with these seals of what it closes.
+fn sealed_plan(plan: Plan, seals: Vec<u8>) -> Result<Plan, AllocError>
+    ensures sealed { IfOk result (λ sealed. length plan.sealed.items ≤ 1 → map sealed_content sealed.sealed.items
+        ≡ map (λ one. with_seals seals.items (sealed_content one)) plan.sealed.items) }
+    ensures rest { IfOk result (λ sealed. sealed ≡ record plan { sealed = sealed.sealed }) }
+{
+    let sealed = with_seals(plan.sealed, seals)?;
+    Ok(Plan {
+        numbers: plan.numbers,
+        visits: plan.visits,
+        archive: plan.archive,
+        segments: plan.segments,
+        lists: plan.lists,
+        gone: plan.gone,
+        taken: plan.taken,
+        sealed,
+        stage: plan.stage,
+    })
+}
+
+/// What is sealed with an archive, as yet without seals, with these; one at most.
+fn with_seals(
+    mut sealed: Vec<SealedArchive>,
+    seals: Vec<u8>,
+) -> Result<Vec<SealedArchive>, AllocError>
+    ensures { IfOk result (λ all. length sealed.items ≤ 1 → map sealed_content all.items
+        ≡ map (λ one. with_seals seals.items (sealed_content one)) sealed.items) }
+{
+    if let Some(one) = sealed.pop() {
+        let SealedArchive {
+            archive,
+            terminal,
+            seals: _,
+        } = one;
+        sealed.push(SealedArchive {
+            archive,
+            terminal,
+            seals,
+        })?;
+    }
+    Ok(sealed)
+}
+
+/// Whether these are the seals of what was sealed.
+fn are_sealed_as(sealed: &[SealedArchive], seals: &[u8]) -> bool
+    ensures { result ≡ list_all (λ (one : SealedContent). bytes_eq one.seals seals.now) (map sealed_content sealed.now) }
+{
+    for one in sealed {
+        if one.seals.as_slice() != seals {
+            return false;
+        }
+    }
+    true
 }
 
 /// That the archive's texts, beyond what the store's register closes, are the first of the store's, in the order in which they

@@ -24,6 +24,9 @@ mod register;
 mod register_closing;
 mod register_reading;
 mod register_rows;
+mod sealed_archives;
+mod sealing;
+mod seals;
 mod settled_lists;
 mod sound;
 mod taken;
@@ -33,7 +36,7 @@ mod waiting;
 pub use closing::{
     clear, clear_lists, clear_visits, close, delete_interchange, delete_list, delete_visit,
 };
-pub use comparing::{Difference, Numbers, compare};
+pub use comparing::{Compared, Difference, Numbers, compare};
 pub use creating::create_register;
 pub use faults::{CloseFault, File, FileFault, Refusal};
 pub use going::done_lists;
@@ -45,6 +48,9 @@ pub use register::{
 };
 pub use register_closing::{characters, close_with, mark};
 pub use register_reading::read_register;
+pub use sealed_archives::SealedArchive;
+pub use sealing::seals_of;
+pub use seals::{has_seal_of, has_seals};
 pub use settled_lists::{SettledList, copied_list, is_same_list, side_code};
 pub use sound::{MOST_ARCHIVES, is_file_name, is_sound};
 pub use visits::{VisitFault, newest_number, visits_to_go};

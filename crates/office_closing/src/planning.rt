@@ -2,8 +2,8 @@ ghost use Rattle.std.specs.{Option.option_map, Prelude.{◌≡◌, ◌↔◌, �
 ghost use Rattle.office_loading.specs.Closed.{last_closed};
 ghost use Rattle.office_closing.specs.Copies.{AreAtMost, AreDoneIn, AreFirst, ComesOn, FileNames, IsNoLater, IsOfStore, IsReason, IsSameOffice, archive_in, numbers_from, numbers_of, office_content, segments_of};
 ghost use Rattle.office_closing.specs.{Closes.{IsOfClosing, closing_content}, Steps.{is_unmarked, is_unraised}, Visits.AreToGo, declared.planning.Stage.Stage};
-ghost use Rattle.office_closing.specs.Planning.{AreClosingLists, AreFor, IsHistory, IsMarkedAs, IsPlan, IsPlanOf, IsRefused, IsRefusedWith, IsTakenFor, IsToldBy};
-ghost use Rattle.office_closing.specs.{Lists.list_content, Register.{archive_content, register_content}};
+ghost use Rattle.office_closing.specs.Planning.{AreClosingLists, AreFor, IsHistory, IsMarkedAs, IsPlan, IsPlanOf, IsRefused, IsRefusedWith, IsSealedFor, IsTakenFor, IsToldBy};
+ghost use Rattle.office_closing.specs.{Lists.list_content, Register.{archive_content, register_content, sealed_content}};
 ghost use Rattle.office_parts.specs.Named.{named_list_content};
 ghost use Rattle.office_admission.specs.{SetupAccounts.account_contents, Limits.most_partners};
 ghost use Rattle.office_closing.specs.Sound as sound;
@@ -11,6 +11,7 @@ ghost use Rattle.office_closing.specs.Sound as sound;
 use crate::comparing::Numbers;
 use crate::faults::{CloseFault, Refusal};
 use crate::lists::{lists_in_both, lists_to_register};
+use crate::sealed_archives::{SealedArchive, all_sealed_with};
 use crate::taken::taken_to_register;
 use crate::visits::{newest_number, visits_to_go};
 use crate::{Archive, Register, Segment, SettledList, done_lists, is_file_name, is_sound};
@@ -94,6 +95,8 @@ pub(crate) struct Plan {
     pub gone: Vec<SettledList>,
     /// What the store's register has with it as taken.
     pub taken: Vec<Segment>,
+    /// What the store's register has with it as sealed; the seals are made later.
+    pub sealed: Vec<SealedArchive>,
     /// How far it has come.
     pub stage: Stage,
 }
@@ -132,7 +135,7 @@ pub(crate) fn make_plan(
     requires sound { IsTrue (sound.is_sound (register_content copy.register)) }
     requires few { length own.now.nexts.items ≤ most_partners }
     ensures ok { IfOk result (IsPlan (office_content own.now) (office_content copy)
-        (record { store = store_file.now; archive = archive_file.now }) (map named_list_content named.now)) }
+        (record { store = store_file.now; archive = archive_file.now }) (map named_list_content named.now) []) }
     ensures err { IfErr result (IsRefused (office_content own.now) (office_content copy)
         (record { store = store_file.now; archive = archive_file.now })) }
 {
@@ -154,6 +157,7 @@ pub(crate) fn make_plan(
         &history.segments,
         &lists.all,
         &history.taken,
+        &history.sealed,
         store_file,
     )?;
     Ok(plan_of(history, lists, stage))
@@ -172,6 +176,8 @@ struct History {
     segments: Vec<Segment>,
     /// What the store's register has with it as taken.
     taken: Vec<Segment>,
+    /// What the store's register has with it as sealed.
+    sealed: Vec<SealedArchive>,
 }
 
 /// The lists of a closing.
@@ -195,6 +201,7 @@ fn plan_of(history: History, lists: ClosingLists, stage: Stage) -> Plan
         lists: lists.all,
         gone: lists.gone,
         taken: history.taken,
+        sealed: history.sealed,
         stage,
     }
 }
@@ -219,12 +226,14 @@ fn history_to_close(
     let archive = archive_in(alloc, copy, archive_file)?;
     let segments = segments_of(alloc, archive.place, &numbers)?;
     let taken = taken_to_register(alloc, own, copy, archive.place)?;
+    let sealed = sealed_to_register(alloc, own, copy, archive.place)?;
     Ok(History {
         visits,
         numbers,
         archive,
         segments,
         taken,
+        sealed,
     })
 }
 
@@ -382,6 +391,30 @@ fn archive_in(alloc: Global, copy: &Opened, file: &str) -> Result<Archive, Alloc
     })
 }
 
+/// What the store's register is to get as sealed with an archive, as yet without seals. If it has other archives than the
+/// archive's own register, as a closing leaves it that was stopped, what it has with this one.
+fn sealed_to_register(
+    alloc: Global,
+    own: &Opened,
+    copy: &Opened,
+    archive: u16,
+) -> Result<Vec<SealedArchive>, AllocError>
+    ensures { IfOk result (λ sealed. IsSealedFor (office_content own.now) (office_content copy.now) archive
+        (map sealed_content sealed.items)) }
+{
+    if !copy.register.tells_same(&own.register) {
+        return all_sealed_with(alloc, &own.register.sealed, archive);
+    }
+    let terminal = String::from_str(alloc, own.setup.terminal.as_str())?;
+    let mut sealed = Vec::new(alloc);
+    sealed.push(SealedArchive {
+        archive,
+        terminal,
+        seals: Vec::new(alloc),
+    })?;
+    Ok(sealed)
+}
+
 /// The segments of an archive that closes these numbers.
 pub(crate) fn segments_of(
     alloc: Global,
@@ -413,12 +446,15 @@ fn stage_of(
     segments: &[Segment],
     lists: &[SettledList],
     taken: &[Segment],
+    sealed: &[SealedArchive],
     store_file: &str,
 ) -> Result<Stage, CloseFault>
     requires unclosed { option_map string_bytes own.now.register.closed_for ≡ None }
     requires archive { archive_content archive.now ≡ archive_in (archive_content archive.now).file (office_content copy) }
     requires segments { segments.now ≡ segments_of (archive_content archive.now).place (numbers_of (office_content copy)) }
     requires taken { IsTakenFor (office_content own.now) (office_content copy) (archive_content archive.now).place taken.now }
+    requires sealed { IsSealedFor (office_content own.now) (office_content copy) (archive_content archive.now).place
+        (map sealed_content sealed.now) }
     ensures ok { IfOk result (λ stage. (names : FileNames) → names.store ≡ store_file.now →
         names.archive ≡ (archive_content archive.now).file →
         ComesOn (office_content own.now) (office_content copy) names (map list_content lists.now) stage) }
@@ -431,7 +467,7 @@ fn stage_of(
     let mark = mark_of(&copy.register.closed_for, store_file);
     let raised = copy
         .register
-        .with_closing(alloc, archive, segments, lists, taken)?;
+        .with_closing(alloc, archive, segments, lists, taken, sealed)?;
     let may = is_sound(alloc, &raised)? && is_file_name(store_file.as_bytes());
     let has_archive = raised.tells_same(&own.register);
     match come_so_far(is_same, has_archive, mark) {

@@ -1,9 +1,11 @@
-ghost use Rattle.std.specs.{Prelude.{◌≡◌, ◌↔◌, ◌++◌, ◌∷◌, [], true, false, ℕ, IfOk, OnOk, IsTrue, get_or, map}, List.AllByRecursion, Option.option_map};
+ghost use Rattle.std.specs.{Prelude.{◌≡◌, ◌↔◌, ◌++◌, ◌∷◌, [], true, false, ℕ, IfOk, OnOk, IsTrue, get_or, map}, List.{AllByRecursion, list_any}};
+ghost use Rattle.std.specs.Option.{option_map};
 ghost use Rattle.office_loading.specs.Closed.{closed_content};
 ghost use Rattle.edi_messages.specs.Owned.{call_content};
-ghost use Rattle.office_closing.specs.{Changes.{closed_with, unmarked}, Lists.{list_content, lines_of_list}, Sound.{is_sound, IsOfAccount}};
-ghost use Rattle.office_closing.specs.Register.{archive_content, register_content, last_closed, archive_of, newest_visit, closed_by, is_newer_than, is_passed};
+ghost use Rattle.office_closing.specs.{Changes.{closed_with, unmarked}, Lists.{is_among, list_content, lines_of_list}, Sound.{is_sound, IsOfAccount}};
+ghost use Rattle.office_closing.specs.Register.{archive_content, register_content, last_closed, archive_of, newest_visit, closed_by, is_newer_than, is_of_terminal, is_passed, sealed_content};
 
+use crate::sealed_archives::{SealedArchive, append_sealed, are_same_sealed};
 use crate::settled_lists::{SettledList, are_same_lists, is_of_list, put_lists};
 use edi_messages::Call;
 use office_admission::MOST_PARTNERS;
@@ -28,15 +30,16 @@ pub struct Segment {
     pub last: u32,
 }
 
-/// Which archives hold a store's history, which numbers each of them closed, the lists that were put away, and what the
-/// store had taken as each was closed, if the register says so; in an archive's own register also the file of the store
-/// that goes on.
+/// Which archives hold a store's history, which numbers each of them closed, the lists that were put away, what the store had
+/// taken as each was closed and what was sealed with it, if the register says so; in an archive's own register also the file
+/// of the store that goes on.
 #[derive(Debug, Drop)]
 pub struct Register {
     pub archives: Vec<Archive>,
     pub segments: Vec<Segment>,
     pub lists: Vec<SettledList>,
     pub taken: Vec<Segment>,
+    pub sealed: Vec<SealedArchive>,
     pub closed_for: Option<String>,
 }
 
@@ -67,11 +70,13 @@ impl Register {
         None
     }
 
-    /// Whether any list was put away.
-    pub fn has_lists(&self) -> bool
-        ensures { (result ≡ false) ↔ ((register_content self.now).lists ≡ []) }
+    /// Whether any list was put away with the first so many archives.
+    pub fn has_lists(&self, count: usize) -> bool
+        ensures { result ≡ list_any (λ list. is_among count (list_content list)) self.now.lists.items }
     {
-        !self.lists.is_empty()
+        self.lists
+            .iter()
+            .any(|list| usize::from(list.archive) <= count)
     }
 
     /// The lines of a list that were put away with the newest of its archives; none if none were.
@@ -111,6 +116,18 @@ impl Register {
         false
     }
 
+    /// Whether it is of a store of the terminal with this code: it has no archive that another terminal's store closed.
+    pub fn is_of_terminal(&self, code: &str) -> bool
+        ensures { result ≡ is_of_terminal code.now (register_content self.now) }
+    {
+        for sealed in &self.sealed {
+            if sealed.terminal.as_bytes() != code.as_bytes() {
+                return false;
+            }
+        }
+        true
+    }
+
     /// What is closed, as an opening of the store asks for it.
     pub fn closed(&self, alloc: Global) -> Result<Closed, AllocError>
         requires { IsTrue (is_sound (register_content self.now)) }
@@ -123,8 +140,8 @@ impl Register {
         })
     }
 
-    /// The register with one more archive, the segments that it closes, the lists that were put away with it and what had
-    /// been taken, and without a mark.
+    /// The register with one more archive, the segments that it closes, the lists that were put away with it, what had been
+    /// taken and what is sealed with it, and without a mark.
     pub fn with_closing(
         self,
         alloc: Global,
@@ -132,10 +149,11 @@ impl Register {
         segments: &[Segment],
         lists: &[SettledList],
         taken: &[Segment],
+        sealed: &[SealedArchive],
     ) -> Result<Register, AllocError>
         ensures { IfOk result (λ register. register_content register
             ≡ closed_with (archive_content archive.now) segments.now (map list_content lists.now) taken.now
-            (unmarked (register_content self))) }
+            (map sealed_content sealed.now) (unmarked (register_content self))) }
     {
         let mut archives = self.archives;
         append(&mut archives, copied_archive(alloc, archive)?)?;
@@ -145,11 +163,14 @@ impl Register {
         put_lists(alloc, &mut settled, lists)?;
         let mut known = self.taken;
         append_all(&mut known, taken)?;
+        let mut all_sealed = self.sealed;
+        append_sealed(alloc, &mut all_sealed, sealed)?;
         Ok(Register {
             archives,
             segments: all,
             lists: settled,
             taken: known,
+            sealed: all_sealed,
             closed_for: None,
         })
     }
@@ -162,6 +183,7 @@ impl Register {
             && are_same_segments(&self.segments, &other.segments)
             && are_same_lists(&self.lists, &other.lists)
             && are_same_segments(&self.taken, &other.taken)
+            && are_same_sealed(&self.sealed, &other.sealed)
     }
 }
 

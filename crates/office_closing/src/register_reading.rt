@@ -1,15 +1,16 @@
 ghost use Rattle.std.specs.{Prelude.{◌≡◌, ◌<◌, [], ◌∷◌, ⊤, IfOk, IfErr, IsTrue, IsUtf8, map, length, string_bytes, true}, Option.option_map};
 ghost use Rattle.office_loading.specs.{Decoded.itself, Tables.ReadsTable};
-ghost use Rattle.office_closing.specs.{Lists.list_content, Register.{archive_content, register_content}, Sound.{is_sound, IsSound}};
-ghost use Rattle.office_closing.specs.Reading.{FitsArchive, FitsSegment, FitsList, ShowsArchives, ShowsSegments, ShowsFiles, ReadsMark, ReadsTables, ReadsRegister, closed_for_file};
-ghost use Rattle.office_closing.specs.Stored.{HasRegister, ShowsLists, ShowsTaken, if_any};
-ghost use Rattle.office_closing.specs.Tables.{archive_table, segment_table, closed_for_table, settled_table, taken_table, Layout, whole, has_table, asking, register_schema, schema_in};
+ghost use Rattle.office_closing.specs.{Lists.list_content, Register.{archive_content, register_content, sealed_content}, Sound.{is_sound, IsSound}};
+ghost use Rattle.office_closing.specs.Reading.{FitsArchive, FitsSegment, FitsList, ShowsArchives, ShowsSegments, ShowsFiles, ReadsMark, ReadsTables, ReadsRegister, closed_for_file, FitsSealed};
+ghost use Rattle.office_closing.specs.Stored.{HasRegister, ShowsLists, ShowsTaken, if_any, ShowsSealed};
+ghost use Rattle.office_closing.specs.Tables.{archive_table, segment_table, closed_for_table, settled_table, taken_table, Layout, whole, has_table, asking, register_schema, schema_in, sealed_table};
 ghost use Rattle.office_rows.specs.{Shown.ShowsTable, Tables.no_schema};
 ghost use Rattle.office_tables.specs.{Faults.{IsOfStore, IsOfStoreOr}, Reading.{OnlyShows, Reads}};
 ghost use Rattle.sqlite.specs.{Held.state, State.{HasCleanDisk, Shown}};
 
 use crate::register::{Archive, Register, Segment};
 use crate::register_rows::ClosedFor;
+use crate::sealed_archives::SealedArchive;
 use crate::settled_lists::SettledList;
 use crate::sound::is_sound;
 use office_loading::read_all;
@@ -60,11 +61,13 @@ fn read_tables<S: Alter>(alloc: Global, conn: &mut Connection<S>) -> Result<Regi
     let closed_for = read_closed_for(alloc, conn)?;
     let lists = read_lists(alloc, conn)?;
     let taken = read_taken(alloc, conn)?;
+    let sealed = read_sealed(alloc, conn)?;
     Ok(Register {
         archives,
         segments,
         lists,
         taken,
+        sealed,
         closed_for,
     })
 }
@@ -133,6 +136,25 @@ fn read_taken<S: Alter>(alloc: Global, conn: &mut Connection<S>) -> Result<Vec<S
     }
 }
 
+/// What was sealed with archives; nothing where there is no table of it.
+fn read_sealed<S: Alter>(
+    alloc: Global,
+    conn: &mut Connection<S>,
+) -> Result<Vec<SealedArchive>, TableFault>
+    ensures read { HasCleanDisk (state S.Store conn.new) → (layout : Layout) →
+        (state S.Store conn.old).now.schema ≡ schema_in layout →
+        ReadsTable sealed_content FitsSealed (ShowsSealed layout (state S.Store conn.old).now) result }
+    ensures version { IfErr result (IsOfStoreOr ⊤) }
+    ensures reads { Reads (state S.Store conn.old) (state S.Store conn.new) result }
+{
+    let there = is_there(conn, Later::Sealed)?;
+    if there {
+        read_all_sealed(alloc, conn)
+    } else {
+        Ok(Vec::new(alloc))
+    }
+}
+
 /// A table that an older register lacks.
 #[derive(Clone, Copy)]
 enum Later {
@@ -140,6 +162,8 @@ enum Later {
     Lists,
     /// That of what had been taken.
     Taken,
+    /// That of what was sealed.
+    Sealed,
 }
 
 /// What asks for a table.
@@ -149,6 +173,7 @@ fn asking(table: Later) -> &'static str
     match table {
         Later::Lists => "SELECT vessel FROM settled",
         Later::Taken => "SELECT last FROM taken",
+        Later::Sealed => "SELECT terminal FROM sealed",
     }
 }
 
@@ -186,12 +211,27 @@ fn read_all_taken<S: Alter>(
     alloc: Global,
     conn: &mut Connection<S>,
 ) -> Result<Vec<Segment>, TableFault>
-    ensures read { HasCleanDisk (state S.Store conn.new) → (state S.Store conn.old).now.schema ≡ register_schema →
+    ensures read { HasCleanDisk (state S.Store conn.new) → (layout : Layout) → has_table Later.Taken layout ≡ true →
+        (state S.Store conn.old).now.schema ≡ schema_in layout →
         ReadsTable itself FitsSegment (ShowsTaken whole (state S.Store conn.old).now) result }
     ensures version { IfErr result (IsOfStoreOr ⊤) }
     ensures reads { Reads (state S.Store conn.old) (state S.Store conn.new) result }
 {
     let rows = select_taken(conn)?;
+    read_all(alloc, &rows)
+}
+
+/// What the table of what was sealed shows.
+fn read_all_sealed<S: Alter>(
+    alloc: Global,
+    conn: &mut Connection<S>,
+) -> Result<Vec<SealedArchive>, TableFault>
+    ensures read { HasCleanDisk (state S.Store conn.new) → (state S.Store conn.old).now.schema ≡ register_schema →
+        ReadsTable sealed_content FitsSealed (ShowsSealed whole (state S.Store conn.old).now) result }
+    ensures version { IfErr result (IsOfStoreOr ⊤) }
+    ensures reads { Reads (state S.Store conn.old) (state S.Store conn.new) result }
+{
+    let rows = select_sealed(conn)?;
     read_all(alloc, &rows)
 }
 
@@ -286,7 +326,8 @@ fn select_lists<S: Alter>(conn: &mut Connection<S>) -> Result<Vec<Row>, TableFau
 
 /// The rows of all that had been taken, by archive and partner.
 fn select_taken<S: Alter>(conn: &mut Connection<S>) -> Result<Vec<Row>, TableFault>
-    ensures shown { HasCleanDisk (state S.Store conn.new) → (state S.Store conn.old).now.schema ≡ register_schema →
+    ensures shown { HasCleanDisk (state S.Store conn.new) → (layout : Layout) → has_table Later.Taken layout ≡ true →
+        (state S.Store conn.old).now.schema ≡ schema_in layout →
         IfOk result (λ answer. ShowsTable taken_table (0 ∷ 1 ∷ 2 ∷ []) (1 ∷ 0 ∷ []) (state S.Store conn.old).now answer.items) }
     ensures fault { IfErr result IsOfStore }
     ensures reads { Reads (state S.Store conn.old) (state S.Store conn.new) result }
@@ -294,6 +335,19 @@ fn select_taken<S: Alter>(conn: &mut Connection<S>) -> Result<Vec<Row>, TableFau
     select(
         conn,
         "SELECT partner, archive, last FROM taken ORDER BY archive, partner",
+    )
+}
+
+/// The rows of all that was sealed, by archive.
+fn select_sealed<S: Alter>(conn: &mut Connection<S>) -> Result<Vec<Row>, TableFault>
+    ensures shown { HasCleanDisk (state S.Store conn.new) → (state S.Store conn.old).now.schema ≡ register_schema →
+        IfOk result (λ answer. ShowsTable sealed_table (0 ∷ 1 ∷ 2 ∷ []) (0 ∷ []) (state S.Store conn.old).now answer.items) }
+    ensures fault { IfErr result IsOfStore }
+    ensures reads { Reads (state S.Store conn.old) (state S.Store conn.new) result }
+{
+    select(
+        conn,
+        "SELECT archive, terminal, seals FROM sealed ORDER BY archive",
     )
 }
 

@@ -2,10 +2,11 @@ ghost use Rattle.std.specs.{Prelude.{◌≡◌, ◌&&◌, nat_le, [], IfOk, None
 ghost use Rattle.edi_messages.specs.Texts.{is_name};
 ghost use Rattle.edi_syntax.specs.Characters.{is_printable};
 ghost use Rattle.office_admission.specs.Limits.{most_partners};
-ghost use Rattle.office_closing.specs.{Lists.list_content, declared.register.Segment.Segment, Register.{register_content, archive_content}};
+ghost use Rattle.office_closing.specs.{Lists.list_content, declared.register.Segment.Segment, Register.{register_content, archive_content, sealed_content}};
 ghost use Rattle.office_closing.specs.Sound as sound;
 
 use crate::register::{Archive, Register, Segment};
+use crate::sealed_archives::SealedArchive;
 use crate::settled_lists::{SettledList, comes_before};
 use edi_syntax::LAST_NUMBER;
 use office_admission::{MOST_PARTNERS, MOST_VISITS};
@@ -25,6 +26,7 @@ pub fn is_sound(alloc: Global, register: &Register) -> Result<bool, AllocError>
             && are_segments
             && are_sound_lists(register.archives.len(), &register.lists)
             && are_sound_taken(register.archives.len(), &register.taken)
+            && are_sound_sealed(register.archives.len(), &register.sealed)
             && is_sound_mark(&register.closed_for),
     )
 }
@@ -239,6 +241,46 @@ fn comes_after(before: Option<&SettledList>, list: &SettledList) -> bool
         Some(before) => comes_before(before, list),
         None => true,
     }
+}
+
+fn are_sound_sealed(archives: usize, sealed: &[SealedArchive]) -> bool
+    ensures { result ≡ sound.are_sound_sealed archives (map sealed_content sealed.now) }
+{
+    may_be_all_sealed(archives, sealed) && are_sealed_in_turn(sealed)
+}
+
+/// Whether each was sealed with an archive from 1 to the given count, by a terminal whose code is a name.
+fn may_be_all_sealed(archives: usize, sealed: &[SealedArchive]) -> bool
+    ensures { result ≡ list_all (sound.may_be_sealed archives) (map sealed_content sealed.now) }
+{
+    for one in sealed {
+        if !may_be_sealed(archives, one) {
+            return false;
+        }
+    }
+    true
+}
+
+fn may_be_sealed(archives: usize, sealed: &SealedArchive) -> bool
+    ensures { result ≡ sound.may_be_sealed archives (sealed_content sealed.now) }
+{
+    1 <= sealed.archive
+        && usize::from(sealed.archive) <= archives
+        && is_name(sealed.terminal.as_bytes())
+}
+
+/// Whether each was sealed with an archive after that of the one before.
+fn are_sealed_in_turn(sealed: &[SealedArchive]) -> bool
+    ensures { result ≡ sound.are_sealed_in_turn 0 (map sealed_content sealed.now) }
+{
+    let mut archive = 0;
+    for one in sealed {
+        if one.archive <= archive {
+            return false;
+        }
+        archive = one.archive;
+    }
+    true
 }
 
 fn is_sound_mark(closed_for: &Option<String>) -> bool

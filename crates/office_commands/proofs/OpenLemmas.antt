@@ -11,9 +11,9 @@ use Rattle.office_history.proofs.Alike.{reopens}
 use Rattle.office_tables.proofs.MadeLemmas.{clean_first}
 use Rattle.office_rows.{specs.{Stored.{HasRows, StoresRows}, Tables.office_schema}, proofs.Creating.stores}
 use Rattle.office_admission.specs.{Given.IsGiven, Setups.{SetupContent, setup_content}, declared.setup.Setup.Setup, Limits.most_partners}
-use Rattle.office_closing.specs.{Register.{RegisterContent, closed_by, is_newer_than, last_closed, newest_visit}, declared.register.Segment.Segment}
-use Rattle.office_closing.specs.Sound.{are_in_order, are_sound_archives, are_sound_lists, are_sound_segments, are_sound_taken, close_more, is_sound, is_sound_mark, is_within}
-use Rattle.office_commands.specs.{Opening.{BeginsAt, Shows}, Beside.{IsLoaded, IsOfDay, IsOpenedOver, IsOpenedWhole, OpensFor, OpensOn, OpensWith}}
+use Rattle.office_closing.specs.{Register.{RegisterContent, closed_by, is_newer_than, is_of_terminal, last_closed, newest_visit}, declared.register.Segment.Segment}
+use Rattle.office_closing.specs.Sound.{are_in_order, are_sound_archives, are_sound_lists, are_sound_sealed, are_sound_segments, are_sound_taken, close_more, is_sound, is_sound_mark, is_within}
+use Rattle.office_commands.specs.{Opening.{BeginsAt, Shows}, Beside.{IsLoaded, IsOfDay, IsOfTerminal, IsOpenedOver, IsOpenedWhole, OpensFor, OpensOn, OpensWith}}
 use Rattle.office_desk.specs.{Beside.{IsBeside, IsOrNone}, Desks.{IsSound, OpensAt}, Telling.Holds, declared.beside.Beside.Beside, declared.desk.Desk.Desk}
 use Rattle.office_desk.proofs.{DeliverLemmas.{beside_loaded, office_with, shown_by_own}, HoldLemmas.{held_leaves, nexts_loaded}, OwnNumbers.codes_after}
 use Rattle.office_parts.specs.{Archives.Archive, OwnLists.rows_without_lists}
@@ -87,7 +87,7 @@ none_within (segment ∷ segments) all =
 pub closes_nothing : (names : RegisterContent) → IsTrue (is_sound names) → names.archives ≡ [] → closed_by names ≡ nothing_closed
 closes_nothing names sound none =
     let many : ℕ = length names.archives in
-    let rest : Bool = are_sound_lists many names.lists && (are_sound_taken many names.taken && is_sound_mark names.closed_for) in
+    let rest : Bool = are_sound_lists many names.lists && (are_sound_taken many names.taken && (are_sound_sealed many names.sealed && is_sound_mark names.closed_for)) in
     let all = (and_parts (are_sound_archives names.archives) (are_sound_segments many names.segments && rest) sound).1 in
     let segments = (and_parts (are_sound_segments many names.segments) rest all).0 in
     let within = (and_parts (list_all (is_within many) names.segments) (are_in_order 0 0 names.segments && close_more [] names.segments) segments).0 in
@@ -171,15 +171,20 @@ loaded_as g found conn closed setup there desk conn_is closed_is setup_is loaded
 pub of_that_day : {S : Type 0} {g : Ghosts S} (names : RegisterContent) (desk : Desk S g) (there : Beside) → desk.beside ≡ Some there → is_newer_than there.nexts.items names ≡ false → IsOfDay names desk
 of_that_day names desk there is of_day = subst (λ (o : Option Beside). IfSome o (λ one. is_newer_than one.nexts.items names ≡ false)) (sym is) of_day
 
+-- the set-up that was loaded tells the terminal
+pub of_that_terminal : {S : Type 0} {g : Ghosts S} (names : RegisterContent) (desk : Desk S g) (setup : Setup) → desk.setup ≡ setup → is_of_terminal (setup_content setup).terminal names ≡ true → IsOfTerminal names desk
+of_that_terminal names desk setup is of_terminal = subst (λ (s : Setup). is_of_terminal (setup_content s).terminal names ≡ true) (sym is) of_terminal
+
 -- beside the archives that the register names
 pub joined_with : {S A : Type 0} (g : Ghosts S) (hold : List Archive → Type 0) (are : List Archive → A → Type 0) (image : Image) (found : Held S) (names : RegisterContent) (desk : Desk S g) (there : Beside) (archives : A) → Shows g image found
     → IsLoaded g found desk.conn (closed_content desk.closed) (setup_content desk.setup) there → desk.beside ≡ Some there → (IsSound g desk → (db : Trees) → (state g desk.conn).may_leave db → db ≡ (state g desk.conn).committed.trees) → IsTrue (is_sound names) → closed_content desk.closed ≡ closed_by names
-    → ((list : List Archive) → hold list → NamesAll names list → are list archives) → (names.archives ≡ [] → are [] archives) → is_newer_than there.nexts.items names ≡ false → OpensWith g hold are image names (desk, archives)
-joined_with g hold are image found names desk there archives shows loaded is settled sound closed these none of_day = record {
+    → ((list : List Archive) → hold list → NamesAll names list → are list archives) → (names.archives ≡ [] → are [] archives) → is_newer_than there.nexts.items names ≡ false → IsOfTerminal names desk → OpensWith g hold are image names (desk, archives)
+joined_with g hold are image found names desk there archives shows loaded is settled sound closed these none of_day of_terminal = record {
   opens = opens_on g image found desk shows (opened_over g found desk there loaded is settled);
   sound = sound;
   closed = closed;
   of_day = of_that_day names desk there is of_day;
+  of_terminal = of_terminal;
   these = these;
   alone = λ empty.
       let nothing = closed ∙ closes_nothing names sound empty in

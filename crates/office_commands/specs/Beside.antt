@@ -1,5 +1,5 @@
 -- A store that is opened on its files, beside its archives.
-use Rattle.std.specs.Prelude.{◌≡◌, ℕ, false, List, [], Ok, IfSome, IsTrue}
+use Rattle.std.specs.Prelude.{◌≡◌, ℕ, true, false, List, [], Ok, IfSome, IsTrue}
 use Rattle.sqlite.specs.{Files.HoldsDatabase, Held.{Held, state}, Recovery.Image, State.HasCleanDisk, Tree.Trees}
 use Rattle.sqlite_trees.specs.declared.store.Store.{Ghosts}
 use Rattle.office_replies.specs.Events.{Event}
@@ -7,8 +7,8 @@ use Rattle.office_loading.specs.{Closed.{ClosedContent, closed_content, nothing_
 use Rattle.terminal_core.specs.State.{TerminalState}
 use Rattle.office_rows.specs.{Rows.Rows, Shown.AreNexts, Stored.HasRows, Tables.office_schema}
 use Rattle.office_tables.specs.Reading.{Reads}
-use Rattle.office_admission.specs.{Given.IsGiven, Setups.SetupContent}
-use Rattle.office_closing.specs.{Register.{RegisterContent, closed_by, is_newer_than}, Sound.is_sound}
+use Rattle.office_admission.specs.{Given.IsGiven, Setups.{SetupContent, setup_content}}
+use Rattle.office_closing.specs.{Register.{RegisterContent, closed_by, is_newer_than, is_of_terminal}, Sound.is_sound}
 use Rattle.office_history.specs.After.{AreAfter}
 use Rattle.office_desk.specs.{Desks.{IsSound, OpensAt}, Offices.OpensOffice, declared.beside.Beside.Beside, declared.desk.Desk.Desk}
 use Rattle.office_parts.specs.Archives.{Archive}
@@ -92,15 +92,20 @@ pub record IsAlone {S A : Type 0} {g : Ghosts S} (are : List Archive → A → T
 abbrev pub IsOfDay : {S : Type 0} {g : Ghosts S} → RegisterContent → Desk S g → Type 0
 IsOfDay names desk = IfSome desk.beside (λ there. is_newer_than there.nexts.items names ≡ false)
 
+-- the desk's store is of the terminal whose archives that register names
+abbrev pub IsOfTerminal : {S : Type 0} {g : Ghosts S} → RegisterContent → Desk S g → Type 0
+IsOfTerminal names desk = is_of_terminal (setup_content desk.setup).terminal names ≡ true
+
 -- A store was opened on those files, and its archives are those that a sound register names, which says what is closed of it:
--- whichever these are, if their files hold what they are supposed to. It is of no day before that. If it names none, nothing was
--- put away.
+-- whichever these are, if their files hold what they are supposed to. It is of no day before that, and of no other terminal. If it
+-- names none, nothing was put away.
 pub record OpensWith {S A : Type 0} (g : Ghosts S) (hold : List Archive → Type 0) (are : List Archive → A → Type 0)
     (image : Image) (names : RegisterContent) (opened : Desk S g × A) : Type 0 where
   pub opens : OpensOn g image opened.0
   pub sound : IsTrue (is_sound names)
   pub closed : closed_content opened.0.closed ≡ closed_by names
   pub of_day : IsOfDay names opened.0
+  pub of_terminal : IsOfTerminal names opened.0
   pub these : (list : List Archive) → hold list → NamesAll names list → are list opened.1
   pub alone : names.archives ≡ [] → IsAlone are image opened
 
@@ -113,10 +118,11 @@ pub record FromOpened {S A : Type 0} (g : Ghosts S) (hold : List Archive → Typ
   pub came : Came opened
 
 -- The archives on the shelf beside a store as it was opened are those that are supposed; the register that names them is sound
--- and says what is closed of the store, which is of no day before it.
+-- and says what is closed of the store, which is of no day before it, and of no other terminal.
 pub record IsBesideShelf {S F : Type 0} {g : Ghosts S} (hold : List Archive → Type 0) (holds : List Archive → F → Type 0)
     (names : RegisterContent) (opened : Desk S g) (shelf : F) : Type 0 where
   pub sound : IsTrue (is_sound names)
   pub closed : closed_content opened.closed ≡ closed_by names
   pub of_day : IsOfDay names opened
+  pub of_terminal : IsOfTerminal names opened
   pub these : (list : List Archive) → hold list → holds list shelf

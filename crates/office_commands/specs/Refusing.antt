@@ -6,9 +6,10 @@ use Rattle.office_rows.specs.{Rows.Rows, Stored.HasRows, Tables.office_schema}
 use Rattle.office_tables.specs.{DeliveryReading.OnlyReads, Faults.{IsOfStore, IsOfStoreOr}, declared.table_fault.TableFault.TableFault}
 use Rattle.office_tables.specs.declared.table_fault.TableFault.TheVariants.{Memory}
 use Rattle.office_loading.specs.Closed.{ClosedContent}
-use Rattle.office_closing.specs.{Register.{RegisterContent, closed_by}, Refusing.AreOlder, Sound.is_sound}
+use Rattle.office_closing.specs.{Register.{RegisterContent, closed_by}, Refusing.{AreOlder, IsOfOtherTerminal}, Sound.is_sound}
 use Rattle.office_desk.specs.Offices.{FailsToOpen}
-use Rattle.office_commands.specs.{Opening.Shows, declared.offices.OpenFault.OpenFault, declared.offices.OpenFault.TheVariants.{Closed, Store, Register, Older}}
+use Rattle.office_commands.specs.{Opening.Shows, declared.offices.OpenFault.OpenFault}
+use Rattle.office_commands.specs.declared.offices.OpenFault.TheVariants.{Closed, Store, Register, Older, Other}
 
 -- ---- by which step
 
@@ -18,6 +19,7 @@ IsUnopened Closed = ⊥
 IsUnopened (Store fault) = IsOfStore fault
 IsUnopened (Register fault) = ⊥
 IsUnopened Older = ⊥
+IsUnopened Other = ⊥
 
 -- its register can't be read, or has a mark
 abbrev pub IsOfRegister : (Marked : Type 0) → OpenFault → Type 0
@@ -25,6 +27,7 @@ IsOfRegister Marked Closed = Marked
 IsOfRegister Marked (Store fault) = ⊥
 IsOfRegister Marked (Register fault) = IsOfStoreOr ⊤ fault
 IsOfRegister Marked Older = ⊥
+IsOfRegister Marked Other = ⊥
 
 -- a sound register has a mark
 abbrev pub IsMarked : Type 0
@@ -57,10 +60,22 @@ pub record IsOlderOver {S : Type 0} (g : Ghosts S) (image : Image) : Type 0 wher
   pub reads : OnlyReads {T = Unit {0}} (state g found) (state g last) (Ok tt)
   pub older : HasCleanDisk (state g last) → (rows : Rows) → HasRows rows (state g found).committed → AreOlder names rows
 
--- It is an archive, if that counts; its file can't be opened, or its tables can't be loaded; its register can't be read; or it is
--- of a day before that.
+-- a connection showed what the files held, and was only read; a sound register is of another terminal than the office that it shows
+pub record IsOfOtherOver {S : Type 0} (g : Ghosts S) (image : Image) : Type 0 where
+  pub found : Held S
+  pub last : Held S
+  pub names : RegisterContent
+  pub shows : Shows g image found
+  pub sound : IsTrue (is_sound names)
+  pub reads : OnlyReads {T = Unit {0}} (state g found) (state g last) (Ok tt)
+  pub other : HasCleanDisk (state g last) → (state g found).committed.schema ≡ office_schema →
+      IsOfOtherTerminal names (state g found).committed
+
+-- It is an archive, if that counts; its file can't be opened, or its tables can't be loaded; its register can't be read, or is
+-- another terminal's; or it is of a day before that.
 abbrev pub IsRefused : {S : Type 0} (g : Ghosts S) → Image → (Marked : Type 0) → OpenFault → Type 0
 IsRefused g image Marked Closed = Marked
 IsRefused g image Marked (Store fault) = IsOfStore fault ⊎ IsUnloadedOver g image fault
 IsRefused g image Marked (Register fault) = IsOfStoreOr ⊤ fault
 IsRefused g image Marked Older = IsOlderOver g image
+IsRefused g image Marked Other = IsOfOtherOver g image

@@ -1,7 +1,7 @@
 ghost use Rattle.std.specs.Prelude.{◌≡◌, IfErr, IfOk, IsTrue, string_bytes};
 ghost use Rattle.sqlite.specs.{Held.state, State.HasCleanDisk};
 ghost use Rattle.office_admission.specs.{Given.IsGiven, Setups.setup_content};
-ghost use Rattle.office_closing.specs.{Register.{closed_by, is_newer_than, register_content}, Sound.is_sound};
+ghost use Rattle.office_closing.specs.{Register.{closed_by, is_newer_than, is_of_terminal, register_content}, Sound.is_sound};
 ghost use Rattle.office_commands.specs.{Beside.IsLoaded, Refusing.IsUnloaded};
 ghost use Rattle.office_loading.specs.Closed.{closed_content};
 ghost use Rattle.office_rows.specs.Tables.{office_schema};
@@ -42,6 +42,13 @@ impl Loaded {
         ensures { result ≡ is_newer_than self.now.there.nexts.items (register_content self.now.register) }
     {
         self.register.is_newer_than(&self.there.nexts)
+    }
+
+    /// Whether its register is of its terminal.
+    pub(crate) fn is_of_terminal(&self) -> bool
+        ensures { result ≡ is_of_terminal (setup_content self.now.setup).terminal (register_content self.now.register) }
+    {
+        self.register.is_of_terminal(self.setup.terminal.as_str())
     }
 }
 

@@ -10,7 +10,7 @@ ghost use Rattle.office_commands.specs.{Ending.Prints, Migrating.{FillsNew, IsJu
 
 use crate::opening::{open_new, open_there};
 use crate::telling::{DONE, print};
-use office_loading::{load_old, migrate};
+use office_loading::{Onlooker, load_old, migrate};
 use office_replies::Port;
 use office_tables::TableFault;
 use sqlite::{Alter, Connection, FileFrom, FileStore, Start};
@@ -40,13 +40,14 @@ pub struct Migrated<S: Alter, T: Alter> {
     pub new: Connection<T>,
 }
 
-/// Makes the store in the file at one path of what the older one in the file at another keeps, and prints `ready`; if the
-/// new one was not made, nothing is printed.
+/// Makes the store in the file at one path of what the older one in the file at another keeps, while somebody looks on, and
+/// prints `ready`; if the new one was not made, nothing is printed.
 ///
 /// A fault of the whole is that of the old store, before the new one is opened, or that of opening the new one. No clause
 /// ties what the new one holds to its path: that it is opened last is to be read in this body.
-pub fn migrate_over<S: Start, T: Start, W: Write>(
+pub fn migrate_over<S: Start, T: Start, W: Write, O: Onlooker>(
     rt: &HostRuntime,
+    onlooker: &O,
     old: (&str, S),
     new: (&str, T),
     writer: &mut Port<W>,
@@ -64,7 +65,7 @@ pub fn migrate_over<S: Start, T: Start, W: Write>(
         Ok(conn) => conn,
         Err(fault) => return Err(MigrationFault::Old(fault)),
     };
-    match migrate_into(rt, &mut older, new, writer) {
+    match migrate_into(rt, onlooker, &mut older, new, writer) {
         Ok((outcome, newer)) => Ok(Migrated {
             outcome,
             old: older,
@@ -76,8 +77,9 @@ pub fn migrate_over<S: Start, T: Start, W: Write>(
 
 /// Makes the store in the file at a path with what an older one of any kind keeps, and prints that it is ready: the new store
 /// and how it came out. If the new one can't be opened, nothing was asked of the older one.
-fn migrate_into<S: Alter, T: Start, W: Write>(
+fn migrate_into<S: Alter, T: Start, W: Write, O: Onlooker>(
     rt: &HostRuntime,
+    onlooker: &O,
     older: &mut Connection<S>,
     new: (&str, T),
     writer: &mut Port<W>,
@@ -92,7 +94,7 @@ fn migrate_into<S: Alter, T: Start, W: Write>(
     ensures fault { IfErr result IsOfStore }
 {
     let mut newer = open_new(rt, new.0, new.1)?;
-    let outcome = migrate_between(rt.alloc(), older, &mut newer, writer);
+    let outcome = migrate_between(rt.alloc(), onlooker, older, &mut newer, writer);
     Ok((outcome, newer))
 }
 
@@ -128,8 +130,9 @@ fn look_at<S: Alter>(alloc: Global, conn: &mut Connection<S>) -> Result<(), Tabl
 
 /// Makes the tables of a store with what an older one keeps, and prints that they are ready. Over stores of any kind, so that
 /// what is said of them stays short where a file is known to be one.
-fn migrate_between<S: Alter, T: Alter, W: Write>(
+fn migrate_between<S: Alter, T: Alter, W: Write, O: Onlooker>(
     alloc: Global,
+    onlooker: &O,
     older: &mut Connection<S>,
     newer: &mut Connection<T>,
     writer: &mut Port<W>,
@@ -140,12 +143,13 @@ fn migrate_between<S: Alter, T: Alter, W: Write>(
         (Prints writer.old.failed writer.new.failed writer.new.flushed
         (W.contents writer.old.inner) (W.contents writer.new.inner)) result }
 {
-    fill(alloc, older, newer, writer)
+    fill(alloc, onlooker, older, newer, writer)
 }
 
 /// Makes the tables of a store with what an older one keeps, and prints that they are ready.
-fn fill<S: Alter, T: Alter, W: Write>(
+fn fill<S: Alter, T: Alter, W: Write, O: Onlooker>(
     alloc: Global,
+    onlooker: &O,
     older: &mut Connection<S>,
     newer: &mut Connection<T>,
     writer: &mut Port<W>,
@@ -176,6 +180,6 @@ fn fill<S: Alter, T: Alter, W: Write>(
 {
     let is_idle = newer.is_autocommit();
     prove!(is_idle);
-    migrate(alloc, older, newer)?;
+    migrate(alloc, onlooker, older, newer)?;
     Ok(print(writer, "ready\n", DONE))
 }

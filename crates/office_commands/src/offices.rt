@@ -1,9 +1,9 @@
-ghost use Rattle.std.specs.{Prelude.{◌≡◌, ◌≢◌, false, List, [], IfErr, IfOk, IsTrue, None}, Option.{option_map, unwrap_or}};
+ghost use Rattle.std.specs.{Prelude.{◌≡◌, ◌≢◌, true, false, List, [], IfErr, IfOk, IsTrue, None}, Option.{option_map, unwrap_or}};
 ghost use Rattle.office_archives.specs.Shelves.{NamesAll};
 ghost use Rattle.office_commands.specs.{Beside.{IsLoaded, IsOfDayHeld, IsSetUpHeld, OpensWith}, Opening.{Shows, ShowsHeld}};
 ghost use Rattle.office_commands.specs.Refusing.{IsMarked, IsOfRegister, IsRefused, IsUnloaded, IsUnopened};
-ghost use Rattle.office_closing.specs.{Changes.empty_register, Register.{RegisterContent, closed_by, is_newer_than, register_content}, Sound.is_sound};
-ghost use Rattle.office_loading.specs.Closed.{closed_content};
+ghost use Rattle.office_closing.specs.{Changes.empty_register, Register.{RegisterContent, closed_by, is_newer_than, is_of_terminal, register_content}, Sound.is_sound};
+ghost use Rattle.office_loading.specs.{Closed.closed_content, Tables.LoadsOwn};
 ghost use Rattle.office_parts.specs.Archives.{Archive};
 ghost use Rattle.office_admission.specs.Setups.{setup_content};
 ghost use Rattle.office_rows.specs.{Rows.Rows, Shown.AreNexts, Stored.HasRows, Tables.office_schema};
@@ -42,6 +42,9 @@ pub enum OpenFault {
     /// It is of a day before its register: it awaits an interchange that had been taken as an archive was closed.
     #[error("the store is older than the register of its archives")]
     Older,
+    /// The register is of another terminal's store: an archive that it names was closed of that.
+    #[error("the register of the archives is another store's")]
+    Other,
 }
 
 impl From<AllocError> for OpenFault {
@@ -75,6 +78,9 @@ pub fn open_office<S: Start, A: Archives, M: ArchivesBeside<A>>(
     let register = read_unmarked(rt, store)?;
     match load_office(rt.alloc(), store, &mut looked, register) {
         Ok(loaded) => {
+            if !loaded.is_of_terminal() {
+                return Err(OpenFault::Other);
+            }
             if loaded.is_older() {
                 return Err(OpenFault::Older);
             }
@@ -101,6 +107,9 @@ pub fn open_to_look<S: Start, A: Archives, M: ArchivesBeside<A>>(
     let register = read_names(rt, store)?;
     match load_office(rt.alloc(), store, &mut looked, register) {
         Ok(loaded) => {
+            if !loaded.is_of_terminal() {
+                return Err(OpenFault::Other);
+            }
             if loaded.is_older() {
                 return Err(OpenFault::Older);
             }
@@ -171,6 +180,8 @@ pub fn look_at_office<S: Start>(
         IsSetUpHeld (image_at S.Start) (closed_by (register_content looked.1)) (setup_content looked.2)) }
     ensures of_day { IfOk result (λ looked. HasCleanDisk (file_state looked.0.conn) →
         IsOfDayHeld (image_at S.Start) (register_content looked.1)) }
+    ensures of_terminal { IfOk result (λ looked.
+        is_of_terminal (setup_content looked.2).terminal (register_content looked.1) ≡ true) }
     ensures refused { IfErr result (IsRefused ⟦<FileStore<FileFrom<S>> as sqlite_trees::store::Store>⟧ (image_at S.Start) ⊥) }
 {
     let mut looked = match look_there(rt, store, start) {
@@ -182,6 +193,9 @@ pub fn look_at_office<S: Start>(
         Ok(read) => read,
         Err(fault) => return Err(OpenFault::Store(fault)),
     };
+    if !register.is_of_terminal(setup.terminal.as_str()) {
+        return Err(OpenFault::Other);
+    }
     if register.is_newer_than(&there.nexts) {
         return Err(OpenFault::Older);
     }
@@ -199,6 +213,10 @@ fn read_setup<S: Alter>(
     ensures setup { (image : Image) → Shows S.Store image looked.old.conn → IfOk result (λ read.
         HasCleanDisk (state S.Store looked.new.conn) →
         IsSetUpHeld image (closed_by (register_content register.now)) (setup_content read.0)) }
+    ensures loads { HasCleanDisk (state S.Store looked.new.conn) →
+        (state S.Store looked.old.conn).committed.schema ≡ office_schema →
+        IfOk result (λ read. LoadsOwn (closed_by (register_content register.now)) (state S.Store looked.old.conn).committed
+        (setup_content read.0) read.1.terminal) }
     ensures nexts { HasCleanDisk (state S.Store looked.new.conn) → IfOk result (λ read. (rows : Rows) →
         HasRows rows (state S.Store looked.old.conn).committed → AreNexts rows read.1.nexts.items) }
     ensures refused { HasCleanDisk (state S.Store looked.new.conn) → IsTrue (state S.Store looked.new.conn).is_open →
@@ -217,7 +235,8 @@ fn join<S: Alter + Drop, A: Archives, M: ArchivesBeside<A>>(
     loaded: Loaded,
     beside: &M,
 ) -> ArchivedDesk<S, A>
-    requires { is_newer_than loaded.there.nexts.items (register_content loaded.register) ≡ false }
+    requires of_day { is_newer_than loaded.there.nexts.items (register_content loaded.register) ≡ false }
+    requires of_terminal { is_of_terminal (setup_content loaded.setup).terminal (register_content loaded.register) ≡ true }
     ensures { (found : _) (image : Image) → Shows S.Store image found →
         IsLoaded S.Store found looked.inner.conn (closed_content loaded.closed) (setup_content loaded.setup) loaded.there →
         OpensWith S.Store M.hold A.are image (register_content loaded.register) (result.desk, result.archives) }

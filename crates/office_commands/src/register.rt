@@ -86,6 +86,7 @@ pub fn no_archives(alloc: Global) -> Register
         segments: Vec::new(alloc),
         lists: Vec::new(alloc),
         taken: Vec::new(alloc),
+        sealed: Vec::new(alloc),
         closed_for: None,
     }
 }

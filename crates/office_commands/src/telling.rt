@@ -61,6 +61,7 @@ pub fn tell_open_fault<E: Write>(errors: &mut Port<E>, fault: &OpenFault) -> u8
         OpenFault::Store(fault) => tell_fault(errors, fault),
         OpenFault::Register(fault) => tell_fault(errors, fault),
         OpenFault::Older => tell_fault(errors, &TableFault::Damaged),
+        OpenFault::Other => tell_fault(errors, &TableFault::Damaged),
     }
 }
 

@@ -1,6 +1,6 @@
-ghost use Rattle.std.specs.Prelude.{◌≡◌, ⊤, false, IfOk, IfErr, IsTrue};
+ghost use Rattle.std.specs.Prelude.{◌≡◌, ⊤, true, false, IfOk, IfErr, IsTrue};
 ghost use Rattle.office_archives.specs.Texts.{OpensOn};
-ghost use Rattle.office_closing.specs.{Register.{is_newer_than, register_content}, Sound.is_sound};
+ghost use Rattle.office_closing.specs.{Register.{is_newer_than, is_of_terminal, register_content}, Sound.is_sound};
 ghost use Rattle.office_admission.specs.Setups.{setup_content};
 ghost use Rattle.office_commands.specs.{Beside.IsLoaded, Opening.Shows, Printing.{ArePrintedOver, EndsTexts, PrintsJournal, PrintsTexts}, Refusing.IsRefused};
 ghost use Rattle.office_loading.specs.Closed.{closed_content};
@@ -45,6 +45,9 @@ pub fn texts_over<S: Start, T: Alter + Drop, F: Shelf<T> + Drop, M: ShelfBeside<
     let register = read_names(rt, store)?;
     match load_office(rt.alloc(), store, &mut looked, register) {
         Ok(loaded) => {
+            if !loaded.is_of_terminal() {
+                return Err(OpenFault::Other);
+            }
             if loaded.is_older() {
                 return Err(OpenFault::Older);
             }
@@ -70,7 +73,8 @@ fn print_loaded<
     from: u32,
     writer: &mut Port<W>,
 ) -> (Connection<S>, Result<u8, TableFault>)
-    requires { is_newer_than loaded.there.nexts.items (register_content loaded.register) ≡ false }
+    requires of_day { is_newer_than loaded.there.nexts.items (register_content loaded.register) ≡ false }
+    requires of_terminal { is_of_terminal (setup_content loaded.setup).terminal (register_content loaded.register) ≡ true }
     ensures { (found : _) (image : Image) → Shows S.Store image found →
         IsLoaded S.Store found looked.inner.conn (closed_content loaded.closed) (setup_content loaded.setup) loaded.there →
         ArePrintedOver S.Store T.Store M.hold F.holds (OpensOn T.Store F.is_known F.holds) image from

@@ -3,12 +3,14 @@ ghost use Rattle.office_loading.specs.Copies.{AddsShown, AddsStanding};
 ghost use Rattle.office_tables.specs.{Answers.RepliesAs, Faults.IsOfStore, Reading.Reads};
 ghost use Rattle.sqlite.specs.{Held.state, State.{HasCleanDisk, KeepsCommit, Survives}};
 
+use crate::onlooker::{Onlooker, Step};
 use office_tables::{Kept, TableFault, insert_interchange, read_kept};
 use sqlite::{Alter, Connection, Row, Transaction};
 
 /// Copies all interchanges, each with its reply, in their order: that of the rowids, which is the
 /// order in which they came. One at a time is in memory beyond what the query holds.
-pub(crate) fn copy_interchanges<S: Alter, T: Alter>(
+pub(crate) fn copy_interchanges<S: Alter, T: Alter, O: Onlooker>(
+    onlooker: &O,
     old: &mut Connection<S>,
     tx: &mut Transaction<'_, T>,
 ) -> Result<(), TableFault>
@@ -31,6 +33,7 @@ pub(crate) fn copy_interchanges<S: Alter, T: Alter>(
             return Ok(());
         };
         copy_interchange(row, tx)?;
+        onlooker.passed(Step::Copying, 1);
     }
     // There are more rows than are counted.
     Err(TableFault::Memory)

@@ -11,7 +11,7 @@ ghost use Rattle.sqlite.specs.{Held.state, State.{HasCleanDisk, KeepsCommit, Sur
 ghost use Rattle.terminal_core.specs.{Rows.visit_content, declared.change.Version.Version};
 
 use crate::copying::copy_interchanges;
-use crate::{OpenedTables, PartnerRow, Setting, load_old, read_older_tables};
+use crate::{Onlooker, OpenedTables, PartnerRow, Setting, load_old, read_older_tables};
 use office_tables::{
     TableFault, create_tables, insert_account, insert_blocks, insert_listing, insert_place,
     insert_setting, insert_visit,
@@ -21,12 +21,13 @@ use std::alloc::Global;
 use terminal_core::{Listing, Place, Visit};
 
 /// Copies a store of version 1 or 2 into a database without tables, as one of the newest version, wholly or not at
-/// all. The old store stays as it is.
+/// all, while somebody looks on. The old store stays as it is.
 ///
 /// Version if no setting of the old store names version 1 or 2, and Damaged if its rows are those of no office;
 /// then Store if the new one has one of the tables. Store and Memory say nothing of rows.
-pub fn migrate<S: Alter, T: Alter>(
+pub fn migrate<S: Alter, T: Alter, O: Onlooker>(
     alloc: Global,
+    onlooker: &O,
     old: &mut Connection<S>,
     new: &mut Connection<T>,
 ) -> Result<(), TableFault>
@@ -76,11 +77,12 @@ pub fn migrate<S: Alter, T: Alter>(
     prove!(is_idle);
     load_old(alloc, old)?;
     let tables = read_older_tables(alloc, old)?;
-    copy_tables(old, &tables, new)
+    copy_tables(onlooker, old, &tables, new)
 }
 
 /// Makes the tables with these rows and the old store's interchanges, wholly or not at all.
-fn copy_tables<S: Alter, T: Alter>(
+fn copy_tables<S: Alter, T: Alter, O: Onlooker>(
+    onlooker: &O,
     old: &mut Connection<S>,
     tables: &OpenedTables,
     new: &mut Connection<T>,
@@ -104,13 +106,14 @@ fn copy_tables<S: Alter, T: Alter>(
     let is_idle = new.is_autocommit();
     prove!(is_idle);
     let mut tx = new.transaction();
-    write_copy(old, &mut tx, tables)?;
+    write_copy(onlooker, old, &mut tx, tables)?;
     tx.commit()?;
     Ok(())
 }
 
 /// The tables, their rows and the interchanges, in the transaction.
-fn write_copy<S: Alter, T: Alter>(
+fn write_copy<S: Alter, T: Alter, O: Onlooker>(
+    onlooker: &O,
     old: &mut Connection<S>,
     tx: &mut Transaction<'_, T>,
     tables: &OpenedTables,
@@ -128,7 +131,7 @@ fn write_copy<S: Alter, T: Alter>(
     ensures fault { IfErr result IsOfStore }
 {
     write_tables(tx, tables)?;
-    copy_interchanges(old, tx)
+    copy_interchanges(onlooker, old, tx)
 }
 
 /// The settings.

@@ -10,7 +10,7 @@ use crate::stops::files::{
 use crate::stops::office::connected;
 use crate::stops::worked_rows::{DONE_1_17, IN_1_17, IN_3_38, MIGRATED};
 use crate::stops::{BOTH, MOST_CALLS, assert_end};
-use office_loading::migrate;
+use office_loading::{Nobody, migrate};
 use sqlite::types::ValueRef;
 use sqlite::{Alter, Connection, Error, Files};
 use sqlite_disk::Disk;
@@ -107,7 +107,7 @@ fn brought_over<S: Alter + Drop, T: Alter + Drop>(
 {
     let mut old = old;
     let mut new = new;
-    let is_done = migrate(alloc, &mut old, &mut new).is_ok();
+    let is_done = migrate(alloc, &Nobody, &mut old, &mut new).is_ok();
     (is_done, old.into_store(), new.into_store())
 }
 

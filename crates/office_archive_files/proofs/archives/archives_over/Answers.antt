@@ -39,6 +39,7 @@ returns-clause-lists g c =
       looked = c.in_ok-looked.looked.conn;
       store_is = c.in_ok-looked.ensures.setup;
       of_day = c.in_ok-looked.ensures.of_day;
+      of_terminal = c.in_ok-looked.ensures.of_terminal;
       lines = lines;
       follow = listed_at _ (image_at g.B.Start) names lines c.args.store.now (string_bytes shelf.store) setup (setup_content shelf.setup) path its c.in_ok-lines.ensures;
       printed = printed_as (λ text wanted. Prints old.failed new.failed new.flushed (g.W.Write.contents old.inner) (g.W.Write.contents new.inner) text wanted c.print_listing.result) c.len-count.result

@@ -1,10 +1,15 @@
-use Rattle.std.proofs.{Common.{◌≡◌, Ok, map, refl, sym, ap, subst, ◌∙◌}, lemmas.Result.err_from_is_err_and}
+use Rattle.std.proofs.{Common.{◌≡◌, ℕ, List, None, Ok, arith, length, map, take, refl, sym, ap, subst, ◌∙◌}, lemmas.List.take_all}
+use Rattle.std.proofs.lemmas.Result.{err_from_is_err_and}
 use Rattle.office_desk.proofs.LookLemmas.{looks_nowhere}
-use Rattle.office_parts.specs.{Named.named_list_content, Naming.interchange_lists}
+use Rattle.office_parts.specs.{Archives.Archive, Away.lines_away, Named.named_list_content, Naming.interchange_lists, OwnLists.ListName}
 use Rattle.office_admission.specs.{Parties.partner_kinds, declared.setup.Setup.Setup, Outcomes.IsAdmitted}
 use Rattle.terminal_core.specs.Versions.{newest}
 use Rattle.office_archives.{specs.Bringing.{BringsTogether, named_by}, proofs.Brought.{brings_fault, brings_nothing, never_away, none_there}}
 use Rattle.office_archives.proofs.bringing.bring_back_named.Goals as goal
+
+-- those of all archives
+no_lists : (list : List Archive) (name : ListName) (count : ℕ) → count ≡ length list → lines_away (take count list) name ≡ None → lines_away list name ≡ None
+no_lists list name count many none = subst (λ first. lines_away first name ≡ None) (take_all count list (omega (arith, many))) none
 
 -- no list was put away
 pub returns-then-not-has_lists : goal.returns-then-not-has_lists
@@ -13,7 +18,7 @@ returns-then-not-has_lists g c = record {
       let desk = c.args.desk.now in
       brings_nothing g.S.Store g.A.Archives.are desk desk c.args.archives.now (λ sound db left. g.met.S.Store.settled desk.conn.store db sound.1 left) (looks_nowhere g.S.Store desk) refl (named_by desk c.args.admitted.now.partner text) (Ok tt) (λ clean was. was)
       (λ sound list content es these stands. none_there stands.away (named_by desk c.args.admitted.now.partner text)
-      (λ name. never_away g.S.Store list content es desk stands name (c.has_lists.ensures.none c.if-not-has_lists.true list these name)));
+      (λ name. never_away g.S.Store list content es desk stands name (no_lists list name c.count.result (c.count.ensures list these) ((c.has_lists.ensures list these).none c.if-not-has_lists.true name))));
 }
 
 pub returns-in_err-lists : goal.returns-in_err-lists

@@ -2,7 +2,7 @@ use Rattle.std.proofs.{Common.{◌+◌, take, drop, sym, ap, subst, ◌∙◌}, 
 use Rattle.sqlite.specs.Held.{state}
 use Rattle.office_rows.specs.Stored.{HasRows}
 use Rattle.office_tables.specs.DeliveryReading.{IsSame}
-use Rattle.office_closing.{specs.Deleting.is_among, proofs.FileLemmas.{among_all, compared_more, either_more, unfit_of_all}}
+use Rattle.office_closing.{specs.{Deleting.is_among, Seals.{HoldsSealing, seals_of}}, proofs.{FileLemmas.{among_all, compared_more, either_more, unfit_of_all}, SealLemmas.{sealed_more, so_far}}}
 use Rattle.office_closing.proofs.JudgeLemmas.{clean_before, if_open_after, if_open_after_failed, if_open_passed, none_read}
 use Rattle.office_closing.proofs.comparing.compare.Goals as goal
 
@@ -11,6 +11,7 @@ loop-numbers-init g c = record {
   store = none_read (state g.S.Store c.args.store.now) tt;
   archive = none_read (state g.A.Store c.args.archive.now) tt;
   alike = λ here there own copy own_has copy_has own_once copy_once partner number e. absurd cc;
+  sealed = λ here there copy copy_has copy_once. c.new-sealing.ensures;
 }
 
 pub returns-in_err-difference-clause-fault : goal.returns-in_err-difference-clause-fault
@@ -54,12 +55,24 @@ loop-numbers-preserved g c =
           let copy_same : IsSame (state g.A.Store c.args.archive.now) (state g.A.Store c.loop-numbers.archive) = before.archive.same earlier' in
           let told = rw c.in_default.is at (call.compared here there own copy (subst (HasRows own) (sym own_same.now) own_has) (subst (HasRows copy) (sym copy_same.now) copy_has) own_once copy_once) in
           compared_more (take i all) _ (take (i + 1) all) (take_more all i _ c.loop-numbers-test.true) own copy (before.alike earlier earlier' own copy own_has copy_has own_once copy_once) told;
+      sealed = λ here there copy copy_has copy_once.
+          let earlier = clean_before call.store_reads here in
+          let earlier' = clean_before call.archive_reads there in
+          let same : IsSame (state g.A.Store c.args.archive.now) (state g.A.Store c.loop-numbers.archive) = before.archive.same earlier' in
+          subst (HoldsSealing c.compare_numbers.new.sealing) (sealed_more copy (take i all) _ (take (i + 1) all) (take_more all i _ c.loop-numbers-test.true))
+          (call.sealed here there c.in_default.is copy (subst (HasRows copy) (sym same.now) copy_has) copy_once (so_far copy (take i all)) (before.sealed earlier earlier' copy copy_has copy_once));
     }
 
 pub returns-clause-compared : goal.returns-clause-compared
 returns-clause-compared g c here there own copy own_has copy_has own_once copy_once partner number e =
     let all = c.args.closing.now in
     c.loop-numbers.invariant.alike here there own copy own_has copy_has own_once copy_once partner number (ap (λ l. is_among l partner number) (take_all c.loop-numbers.numbers-index all c.loop-numbers-test.false) ∙ e)
+
+pub returns-clause-sealed : goal.returns-clause-sealed
+returns-clause-sealed g c here there copy copy_has copy_once =
+    let all = c.args.closing.now in
+    c.into_seals.ensures (so_far copy (take c.loop-numbers.numbers-index all)) (c.loop-numbers.invariant.sealed here there copy copy_has copy_once)
+    ∙ ap (seals_of copy) (take_all c.loop-numbers.numbers-index all c.loop-numbers-test.false)
 
 pub returns-in_err-difference-clause-store_reads : goal.returns-in_err-difference-clause-store_reads
 returns-in_err-difference-clause-store_reads g c =

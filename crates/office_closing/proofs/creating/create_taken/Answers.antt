@@ -2,7 +2,7 @@ use Rattle.std.proofs.Common.{[], ◌∷◌, take}
 use Rattle.sqlite.specs.Held.{state}
 use Rattle.office_rows.specs.Stored.{HasEmpty}
 use Rattle.office_tables.proofs.MadeLemmas.{creates_of, makes_one}
-use Rattle.office_closing.{specs.{Changes.empty_register, Stored.HasWhole, Tables.{register_tables, taken_table}}, proofs.Created.created_taken}
+use Rattle.office_closing.{specs.Tables.{register_tables, taken_table}, proofs.Created.created_taken}
 use Rattle.office_closing.proofs.WriteTexts as texts
 use Rattle.office_closing.proofs.creating.create_taken.Goals as goal
 
@@ -10,6 +10,6 @@ pub returns-clause-creates : goal.returns-clause-creates
 returns-clause-creates g c =
     let old = state g.S.Store c.args.tx.now.conn.now in
     let new = state g.S.Store c.execute.new.self.conn.now in
-    creates_of (taken_table ∷ []) (HasEmpty (take 4 register_tables)) (HasWhole empty_register) old new _ c.execute.ensures.survives (λ clean inside.
+    creates_of (taken_table ∷ []) (HasEmpty (take 4 register_tables)) (HasEmpty (take 5 register_tables)) old new _ c.execute.ensures.survives (λ clean inside.
     let ran = c.in_ok-execute.ensures.runs clean inside in
     (ran.1, (λ has. created_taken old new c.in_ok-execute.field-0 has ran.0), makes_one texts.create_taken taken_table texts.taken_anew.0 texts.taken_anew.1 texts.taken_defined old new c.in_ok-execute.field-0 ran.0))

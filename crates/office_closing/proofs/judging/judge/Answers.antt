@@ -1,9 +1,9 @@
-use Rattle.std.proofs.{Common.{◌≡◌, ◌∙◌, Ok, map, sym, subst, arith}, lemmas.Result.err_from_is_err_and}
+use Rattle.std.proofs.{Common.{◌≡◌, ◌∙◌, [], Ok, map, sym, subst, arith}, lemmas.Result.err_from_is_err_and}
 use Rattle.sqlite.specs.{Held.state, Effect.Database, State.{State, HasCleanDisk}}
 use Rattle.office_closing.specs.{Waiting.AreWaitedFor, declared.faults.CloseFault.CloseFault, Copies.{ClosesNone, FileNames, office_content}, Judging.WantsAll}
 use Rattle.office_closing.specs.{Arriving.{HasTexts, StandInOrder}, Files.{IsRead, IsReadIfOpen, files}, Refusing.IsOfOrdering}
 use Rattle.office_closing.specs.Register.{RegisterContent, last_closed}
-use Rattle.office_closing.proofs.JudgeLemmas.{none_wants, plan_judged, wants_none, failed, passed, then_failed, then_if_open, then_if_open_failed, then_ok, untouched_err}
+use Rattle.office_closing.proofs.JudgeLemmas.{none_wants, plan_judged, plan_sealed, sealed_compared, sealed_kept, sealed_numbers, sealing_tells, wants_none, failed, passed, then_failed, then_if_open, then_if_open_failed, then_ok, untouched_err}
 use Rattle.office_closing.proofs.PlanLemmas.{compared_tells, copy_tells, ordering_tells, own_tells, plan_tells, texts_for, waiting_tells}
 use Rattle.office_parts.specs.Named.{named_list_content}
 use Rattle.office_rows.specs.Stored.{HasRows}
@@ -53,13 +53,13 @@ returns-in_err-plan-clause-read g c =
       archive_register = failed _ c.in_ok-copy.ensures.register_read;
     })
 
-pub returns-in_err-compare_all-clause-read : goal.returns-in_err-compare_all-clause-read
-returns-in_err-compare_all-clause-read g c =
-    let p = err_from_is_err_and c.from_residual-in_err-compare_all.result c.from_residual-in_err-compare_all.ensures.1 in
+pub returns-in_err-seals-clause-read : goal.returns-in_err-seals-clause-read
+returns-in_err-seals-clause-read g c =
+    let p = err_from_is_err_and c.from_residual-in_err-seals.result c.from_residual-in_err-seals.ensures.1 in
     rw (p.1, p.2) (record {
-      store = then_if_open_failed {E = CloseFault} _ (then_if_open c.in_ok-named.named c.in_ok-own.ensures.rows_read c.in_ok-named.ensures.read) c.in_err-compare_all.ensures.store_read;
+      store = then_if_open_failed {E = CloseFault} _ (then_if_open c.in_ok-named.named c.in_ok-own.ensures.rows_read c.in_ok-named.ensures.read) c.in_err-seals.ensures.store_read;
       register = failed _ c.in_ok-own.ensures.register_read;
-      archive = then_if_open_failed _ c.in_ok-copy.ensures.rows_read c.in_err-compare_all.ensures.archive_read;
+      archive = then_if_open_failed _ c.in_ok-copy.ensures.rows_read c.in_err-seals.ensures.archive_read;
       archive_register = failed _ c.in_ok-copy.ensures.register_read;
     })
 
@@ -67,18 +67,28 @@ pub returns-in_err-check_order-clause-read : goal.returns-in_err-check_order-cla
 returns-in_err-check_order-clause-read g c =
     let p = err_from_is_err_and c.from_residual-in_err-check_order.result c.from_residual-in_err-check_order.ensures.1 in
     rw (p.1, p.2) (record {
-      store = then_failed {F = CloseFault} _ (compared_store c.in_ok-named.named c.in_ok-own.ensures.rows_read c.in_ok-named.ensures.read c.in_ok-compare_all.ensures.store_read) c.in_err-check_order.ensures.store_read;
+      store = then_failed {F = CloseFault} _ (compared_store c.in_ok-named.named c.in_ok-own.ensures.rows_read c.in_ok-named.ensures.read c.in_ok-seals.ensures.store_read) c.in_err-check_order.ensures.store_read;
       register = failed _ c.in_ok-own.ensures.register_read;
-      archive = then_failed {F = CloseFault} _ (then_if_open {Z = Unit {0}} {E = CloseFault} {F = CloseFault} {G = CloseFault} tt c.in_ok-copy.ensures.rows_read c.in_ok-compare_all.ensures.archive_read) c.in_err-check_order.ensures.archive_read;
+      archive = then_failed {F = CloseFault} _ (then_if_open {Z = Unit {0}} {E = CloseFault} {F = CloseFault} {G = CloseFault} tt c.in_ok-copy.ensures.rows_read c.in_ok-seals.ensures.archive_read) c.in_err-check_order.ensures.archive_read;
+      archive_register = failed _ c.in_ok-copy.ensures.register_read;
+    })
+
+pub returns-in_err-sealed-clause-read : goal.returns-in_err-sealed-clause-read
+returns-in_err-sealed-clause-read g c =
+    let p = err_from_is_err_and c.from_residual-in_err-sealed.result c.from_residual-in_err-sealed.ensures.1 in
+    rw (p.1, p.2) (record {
+      store = failed _ (then_ok {F = CloseFault} {G = CloseFault} c.in_ok-plan.plan (compared_store c.in_ok-named.named c.in_ok-own.ensures.rows_read c.in_ok-named.ensures.read c.in_ok-seals.ensures.store_read) c.in_ok-check_order.ensures.store_read);
+      register = failed _ c.in_ok-own.ensures.register_read;
+      archive = failed _ (then_ok {F = CloseFault} {G = CloseFault} c.in_ok-plan.plan (then_if_open {Z = Unit {0}} {E = CloseFault} {F = CloseFault} {G = CloseFault} tt c.in_ok-copy.ensures.rows_read c.in_ok-seals.ensures.archive_read) c.in_ok-check_order.ensures.archive_read);
       archive_register = failed _ c.in_ok-copy.ensures.register_read;
     })
 
 pub returns-clause-read : goal.returns-clause-read
 returns-clause-read g c = record {
-  store = then_ok {F = CloseFault} c.in_ok-plan.plan (compared_store c.in_ok-named.named c.in_ok-own.ensures.rows_read c.in_ok-named.ensures.read c.in_ok-compare_all.ensures.store_read) c.in_ok-check_order.ensures.store_read;
-  register = passed c.in_ok-plan.plan c.in_ok-own.ensures.register_read;
-  archive = then_ok {F = CloseFault} c.in_ok-plan.plan (then_if_open {Z = Unit {0}} {E = CloseFault} {F = CloseFault} {G = CloseFault} tt c.in_ok-copy.ensures.rows_read c.in_ok-compare_all.ensures.archive_read) c.in_ok-check_order.ensures.archive_read;
-  archive_register = passed c.in_ok-plan.plan c.in_ok-copy.ensures.register_read;
+  store = then_ok {F = CloseFault} c.in_ok-sealed.sealed (compared_store c.in_ok-named.named c.in_ok-own.ensures.rows_read c.in_ok-named.ensures.read c.in_ok-seals.ensures.store_read) c.in_ok-check_order.ensures.store_read;
+  register = passed c.in_ok-sealed.sealed c.in_ok-own.ensures.register_read;
+  archive = then_ok {F = CloseFault} c.in_ok-sealed.sealed (then_if_open {Z = Unit {0}} {E = CloseFault} {F = CloseFault} {G = CloseFault} tt c.in_ok-copy.ensures.rows_read c.in_ok-seals.ensures.archive_read) c.in_ok-check_order.ensures.archive_read;
+  archive_register = passed c.in_ok-sealed.sealed c.in_ok-copy.ensures.register_read;
 }
 
 pub returns-clause-judged : goal.returns-clause-judged
@@ -88,7 +98,7 @@ returns-clause-judged g c clean held has =
     let own = c.in_ok-own.ensures in
     let copy = c.in_ok-copy.ensures in
     let named = c.in_ok-named.ensures in
-    let call = c.in_ok-compare_all.ensures in
+    let call = c.in_ok-seals.ensures in
     let last = c.in_ok-check_order.ensures in
     let store_compared : HasCleanDisk (state g.S.Store c.compare_all.new.store) = omega (arith, last.store_read.survives.clean, clean.store) in
     let archive_compared : HasCleanDisk (state g.A.Store c.compare_all.new.archive) = omega (arith, last.archive_read.survives.clean, clean.archive) in
@@ -101,10 +111,17 @@ returns-clause-judged g c clean held has =
     let copy_has = subst (HasRows held.copy) (sym (copy.rows_read.unchanged archive_clean).0.now_is) has.copy in
     let opened = own.opened store_clean clean.register in
     let waited = named.named named_clean held.own opened_has (record { accounts = has.own_orderly.accounts; are = opened.nexts held.own has.own; kept_once = has.own_orderly.once }) in
+    let named_lists = map named_list_content c.deref.result.now in
+    let seals = c.in_ok-seals.seals.items in
+    let sealed = c.in_ok-sealed.sealed in
+    let with_ = c.in_ok-sealed.ensures.ok in
+    let is = plan_sealed (office_content c.in_ok-own.own) (office_content c.in_ok-copy.copy) names named_lists seals c.in_ok-plan.plan sealed c.in_ok-plan.ensures.ok with_ in
     plan_judged held old has names (office_content c.in_ok-own.own) (office_content c.in_ok-copy.copy) opened (copy.opened archive_clean clean.archive_register)
-    (map named_list_content c.deref.result.now) (subst (λ l. AreWaitedFor (office_content c.in_ok-own.own).setup held.own (map named_list_content l)) (sym c.deref.ensures.value) waited)
-    c.in_ok-plan.plan c.in_ok-plan.ensures.ok c.utf8.archive_file c.utf8.store_file
-    (call.compared store_compared archive_compared held own_has copy_has has.own_orderly.once has.copy_orderly.once)
+    named_lists (subst (λ l. AreWaitedFor (office_content c.in_ok-own.own).setup held.own (map named_list_content l)) (sym c.deref.ensures.value) waited)
+    seals sealed is c.utf8.archive_file c.utf8.store_file
+    (sealed_numbers held seals c.in_ok-plan.plan sealed with_ (call.sealed store_compared archive_compared held.copy copy_has has.copy_orderly.once))
+    (sealed_kept seals c.in_ok-plan.plan sealed with_)
+    (sealed_compared held seals c.in_ok-plan.plan sealed with_ (call.compared store_compared archive_compared held own_has copy_has has.own_orderly.once has.copy_orderly.once))
 
 -- ---- the order of arrival
 
@@ -115,7 +132,7 @@ returns-clause-texts g c clean held has order =
     let own = c.in_ok-own.ensures in
     let copy = c.in_ok-copy.ensures in
     let named = c.in_ok-named.ensures in
-    let call = c.in_ok-compare_all.ensures in
+    let call = c.in_ok-seals.ensures in
     let last = c.in_ok-check_order.ensures in
     let store_compared : HasCleanDisk (state g.S.Store c.compare_all.new.store) = omega (arith, last.store_read.survives.clean, clean.store) in
     let archive_compared : HasCleanDisk (state g.A.Store c.compare_all.new.archive) = omega (arith, last.archive_read.survives.clean, clean.archive) in
@@ -135,7 +152,7 @@ returns-clause-texts g c clean held has order =
     let registered = opened.registered held.register has.register has.register_sound in
     texts_for (none_wants held old has names (office_content c.in_ok-own.own) (office_content c.in_ok-copy.copy) opened (copy.opened archive_clean clean.archive_register)
     (map named_list_content c.deref.result.now) (subst (λ l. AreWaitedFor (office_content c.in_ok-own.own).setup held.own (map named_list_content l)) (sym c.deref.ensures.value) waited)
-    c.in_ok-plan.plan c.in_ok-plan.ensures.ok c.utf8.archive_file c.utf8.store_file)
+    [] c.in_ok-plan.plan c.in_ok-plan.ensures.ok c.utf8.archive_file c.utf8.store_file)
     (subst (λ (r : RegisterContent). HasTexts (WantsAll c.in_ok-plan.plan) (last_closed r.segments) held.own held.copy) registered
     (last.texts clean.store clean.archive held.own held.copy (subst (HasRows held.own) (sym store_same) has.own) (subst (HasRows held.copy) (sym archive_same) has.copy)
     (subst (λ (d : Database). StandInOrder held.own.interchanges (d.trees 2)) (sym store_same) order.own)
@@ -179,15 +196,15 @@ returns-in_err-plan-clause-tells g c clean =
     plan_tells held names old (office_content c.in_ok-own.own) (office_content c.in_ok-copy.copy) (c.in_ok-own.ensures.opened store_clean clean.register)
     (c.in_ok-copy.ensures.opened clean.archive clean.archive_register) _ c.in_err-plan.ensures.err)
 
-pub returns-in_err-compare_all-clause-tells : goal.returns-in_err-compare_all-clause-tells
-returns-in_err-compare_all-clause-tells g c clean =
-    let p = err_from_is_err_and c.from_residual-in_err-compare_all.result c.from_residual-in_err-compare_all.ensures.1 in
+pub returns-in_err-seals-clause-tells : goal.returns-in_err-seals-clause-tells
+returns-in_err-seals-clause-tells g c clean =
+    let p = err_from_is_err_and c.from_residual-in_err-seals.result c.from_residual-in_err-seals.ensures.1 in
     let names : FileNames = record { store = c.args.store_file.now; archive = c.args.archive_file.now } in
     let old = files g.S.Store g.R.Store g.A.Store g.M.Store c.args.store.now c.args.register.now c.args.archive.now c.args.archive_register.now in
     let own = c.in_ok-own.ensures in
     let copy = c.in_ok-copy.ensures in
     let named = c.in_ok-named.ensures in
-    let call = c.in_err-compare_all.ensures in
+    let call = c.in_err-seals.ensures in
     let named_clean : HasCleanDisk (state g.S.Store c.waited_for.new.conn) = omega (arith, call.store_read.survives.clean, clean.store) in
     let store_clean : HasCleanDisk (state g.S.Store c.open_office.new.conn) = omega (arith, named.read.survives.clean, named_clean) in
     let first = own.rows_read.unchanged store_clean in
@@ -205,7 +222,7 @@ returns-in_err-check_order-clause-tells g c clean =
     let own = c.in_ok-own.ensures in
     let copy = c.in_ok-copy.ensures in
     let named = c.in_ok-named.ensures in
-    let call = c.in_ok-compare_all.ensures in
+    let call = c.in_ok-seals.ensures in
     let last = c.in_err-check_order.ensures in
     let store_compared : HasCleanDisk (state g.S.Store c.compare_all.new.store) = omega (arith, last.store_read.survives.clean, clean.store) in
     let archive_compared : HasCleanDisk (state g.A.Store c.compare_all.new.archive) = omega (arith, last.archive_read.survives.clean, clean.archive) in
@@ -225,9 +242,30 @@ returns-in_err-check_order-clause-tells g c clean =
     let waited = named.named named_clean held.own opened_has (record { accounts = has.own_orderly.accounts; are = opened.nexts held.own has.own; kept_once = has.own_orderly.once }) in
     let wants : WantsAll c.in_ok-plan.plan → ClosesNone held.register held.copied held.copy = wants_none held old has names (office_content c.in_ok-own.own) (office_content c.in_ok-copy.copy) opened (copy.opened archive_clean clean.archive_register)
     (map named_list_content c.deref.result.now) (subst (λ l. AreWaitedFor (office_content c.in_ok-own.own).setup held.own (map named_list_content l)) (sym c.deref.ensures.value) waited)
-    c.in_ok-plan.plan c.in_ok-plan.ensures.ok c.utf8.archive_file c.utf8.store_file in
+    [] c.in_ok-plan.plan c.in_ok-plan.ensures.ok c.utf8.archive_file c.utf8.store_file in
     let registered = opened.registered held.register has.register has.register_sound in
     let of = last.fault clean.store clean.archive held.own held.copy (subst (HasRows held.own) (sym store_same) has.own) (subst (HasRows held.copy) (sym archive_same) has.copy) in
     let of_store = subst (λ (d : Database). IsOfOrdering (WantsAll c.in_ok-plan.plan) (last_closed (office_content c.in_ok-own.own).register.segments) held.own held.copy d (state g.A.Store c.compare_all.new.archive).now c.in_err-check_order.field-0.0) store_same of in
     let of_both = subst (λ (d : Database). IsOfOrdering (WantsAll c.in_ok-plan.plan) (last_closed (office_content c.in_ok-own.own).register.segments) held.own held.copy old.store.now d c.in_err-check_order.field-0.0) archive_same of_store in
     ordering_tells held names old (WantsAll c.in_ok-plan.plan) wants _ (subst (λ (r : RegisterContent). IsOfOrdering (WantsAll c.in_ok-plan.plan) (last_closed r.segments) held.own held.copy old.store.now old.archive.now c.in_err-check_order.field-0.0) registered of_both))
+
+pub returns-in_err-sealed-clause-tells : goal.returns-in_err-sealed-clause-tells
+returns-in_err-sealed-clause-tells g c clean =
+    let p = err_from_is_err_and c.from_residual-in_err-sealed.result c.from_residual-in_err-sealed.ensures.1 in
+    let names : FileNames = record { store = c.args.store_file.now; archive = c.args.archive_file.now } in
+    let old = files g.S.Store g.R.Store g.A.Store g.M.Store c.args.store.now c.args.register.now c.args.archive.now c.args.archive_register.now in
+    let own = c.in_ok-own.ensures in
+    let copy = c.in_ok-copy.ensures in
+    let named = c.in_ok-named.ensures in
+    let call = c.in_ok-seals.ensures in
+    let last = c.in_ok-check_order.ensures in
+    let store_compared : HasCleanDisk (state g.S.Store c.compare_all.new.store) = omega (arith, last.store_read.survives.clean, clean.store) in
+    let archive_compared : HasCleanDisk (state g.A.Store c.compare_all.new.archive) = omega (arith, last.archive_read.survives.clean, clean.archive) in
+    let named_clean : HasCleanDisk (state g.S.Store c.waited_for.new.conn) = omega (arith, call.store_read.survives.clean, store_compared) in
+    let store_clean : HasCleanDisk (state g.S.Store c.open_office.new.conn) = omega (arith, named.read.survives.clean, named_clean) in
+    let archive_clean : HasCleanDisk (state g.A.Store c.open_office-2.new.conn) = omega (arith, call.archive_read.survives.clean, archive_compared) in
+    rw (p.1, p.2) (λ held has.
+    let copy_has = subst (HasRows held.copy) (sym (copy.rows_read.unchanged archive_clean).0.now_is) has.copy in
+    sealing_tells held old has names (office_content c.in_ok-own.own) (office_content c.in_ok-copy.copy) (own.opened store_clean clean.register) (copy.opened archive_clean clean.archive_register)
+    (map named_list_content c.deref.result.now) c.in_ok-seals.seals.items c.in_ok-plan.plan c.in_ok-plan.ensures.ok
+    (call.sealed store_compared archive_compared held.copy copy_has has.copy_orderly.once) _ c.in_err-sealed.ensures.err)

@@ -1,6 +1,7 @@
-use Rattle.std.proofs.{Common.{◌≡◌, ap, subst, ◌∙◌}, lemmas.Result.err_from_is_err_and}
+use Rattle.std.proofs.{Common.{◌≡◌, ap, map, subst, ◌∙◌}, lemmas.Result.err_from_is_err_and}
 use Rattle.office_loading.specs.Closed.{ClosedContent}
-use Rattle.office_closing.specs.{Register.{ArchiveContent, last_closed}, Planning.IsTakenFor, Copies.{numbers_from, numbers_of, office_content, segments_of}}
+use Rattle.office_closing.specs.{Register.{ArchiveContent, last_closed, sealed_content}, Planning.{IsSealedFor, IsTakenFor}}
+use Rattle.office_closing.specs.Copies.{numbers_from, numbers_of, office_content, segments_of}
 use Rattle.office_loading.specs.Closed as closed
 use Rattle.office_closing.proofs.planning.history_to_close.Goals as goal
 
@@ -21,4 +22,5 @@ returns-clause-ok c =
       segments = c.in_ok-segments.ensures ∙ (λ i. segments_of (archive i).place ((c.deref-2.ensures.value ∙ numbers) i));
       visits = c.in_ok-visits.ensures.ok;
       taken = subst (λ n. IsTakenFor (office_content c.args.own.now) copy n c.in_ok-taken.taken.items) (ap (λ (a : ArchiveContent). a.place) archive) c.in_ok-taken.ensures;
+      sealed = subst (λ n. IsSealedFor (office_content c.args.own.now) copy n (map sealed_content c.in_ok-sealed.sealed.items)) (ap (λ (a : ArchiveContent). a.place) archive) c.in_ok-sealed.ensures;
     }

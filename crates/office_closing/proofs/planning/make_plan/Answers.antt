@@ -1,7 +1,8 @@
-use Rattle.std.proofs.{Common.{◌≡◌, map, refl, sym, ap, subst, ◌∙◌}, lemmas.Result.err_from_is_err_and}
+use Rattle.std.proofs.{Common.{◌≡◌, List, map, refl, sym, ap, subst, ◌∙◌}, lemmas.Result.err_from_is_err_and}
 use Rattle.office_parts.specs.Named.{named_list_content}
-use Rattle.office_closing.specs.{Lists.list_content, Register.ArchiveContent, Copies.{AreDoneIn, ComesOn, FileNames, archive_in, office_content}}
-use Rattle.office_closing.{specs.Planning.{AreClosingLists, IsTakenFor}, proofs.ClearLemmas.{plan_from, refused_with, registers_for}}
+use Rattle.office_closing.specs.{Lists.list_content, Register.{ArchiveContent, sealed_content}, declared.sealed_archives.SealedArchive.SealedArchive}
+use Rattle.office_closing.specs.{Copies.{AreDoneIn, ComesOn, FileNames, archive_in, office_content}, Planning.{AreClosingLists, IsSealedFor, IsTakenFor}}
+use Rattle.office_closing.proofs.ClearLemmas.{plan_from, refused_with, registers_for}
 use Rattle.office_closing.proofs.planning.make_plan.Goals as goal
 
 pub returns-in_err-check_office-clause-err : goal.returns-in_err-check_office-clause-err
@@ -45,6 +46,15 @@ stage_of-requires-clause-taken c =
     let place = ap (λ (a : ArchiveContent). a.place) history.archive in
     subst (IsTakenFor own copy c.in_ok-history.history.archive.place) (sym c.deref-4.ensures.value)
     (subst (λ n. IsTakenFor own copy n c.in_ok-history.history.taken.items) (sym place) history.taken)
+
+pub stage_of-requires-clause-sealed : goal.stage_of-requires-clause-sealed
+stage_of-requires-clause-sealed c =
+    let own = office_content c.args.own.now in
+    let copy = office_content c.args.copy in
+    let history = c.in_ok-history.ensures.ok in
+    let place = ap (λ (a : ArchiveContent). a.place) history.archive in
+    subst (λ (l : List SealedArchive). IsSealedFor own copy c.in_ok-history.history.archive.place (map sealed_content l)) (sym c.deref-5.ensures.value)
+    (subst (λ n. IsSealedFor own copy n (map sealed_content c.in_ok-history.history.sealed.items)) (sym place) history.sealed)
 
 pub returns-clause-ok : goal.returns-clause-ok
 returns-clause-ok c =

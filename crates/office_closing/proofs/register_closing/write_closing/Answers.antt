@@ -1,7 +1,7 @@
 use Rattle.std.proofs.Common.{map}
 use Rattle.sqlite.specs.Held.{state}
-use Rattle.office_closing.specs.{Changes.{unchanged, with_archive, with_segments, with_lists, with_taken}, Lists.list_content, Register.archive_content}
-use Rattle.office_closing.{specs.Stored.{HasRegister, HasWhole}, proofs.Committing.{writes_next, writes_if_open}}
+use Rattle.office_closing.specs.{Changes.{unchanged, with_archive, with_segments, with_lists, with_taken, with_sealed}, Lists.list_content}
+use Rattle.office_closing.{specs.{Register.{archive_content, sealed_content}, Stored.{HasRegister, HasWhole}}, proofs.Committing.{writes_next, writes_if_open}}
 use Rattle.office_closing.proofs.register_closing.write_closing.Goals as goal
 
 pub returns-clause-writes : goal.returns-clause-writes
@@ -18,4 +18,7 @@ returns-clause-writes g c =
     let two = writes_next HasRegister unchanged archived s0 s1 s2 _ _ c.in_ok-complete_tables.ensures.writes (writes_if_open HasWhole unchanged archived s1 s2 _ c.in_ok-insert_archive.ensures.writes) in
     let three = writes_next HasRegister archived closed s0 s2 s3 _ _ two c.in_ok-insert_segments.ensures.writes in
     let four = writes_next HasRegister (λ content. closed (archived content)) settled s0 s3 s4 _ _ three c.in_ok-insert_lists.ensures.writes in
-    writes_next HasRegister (λ content. settled (closed (archived content))) (with_taken c.args.taken.now) s0 s4 s5 _ c.insert_all_taken.result four c.insert_all_taken.ensures.writes
+    let s6 = state g.S.Store c.insert_all_sealed.new.tx.conn.now in
+    let known = with_taken c.args.taken.now in
+    let five = writes_next HasRegister (λ content. settled (closed (archived content))) known s0 s4 s5 _ _ four c.in_ok-insert_all_taken.ensures.writes in
+    writes_next HasRegister (λ content. known (settled (closed (archived content)))) (with_sealed (map sealed_content c.args.sealed.now)) s0 s5 s6 _ c.insert_all_sealed.result five c.insert_all_sealed.ensures.writes

@@ -2,8 +2,8 @@ use Rattle.std.{specs.List.AllByRecursion, proofs.{Common.{◌≡◌, List, true
 use Rattle.sqlite.specs.{Effect.Database, Held.state}
 use Rattle.office_tables.proofs.{WritesLemmas.of_store_or, MadeLemmas.{◌then◌, clean_first, reads_on, reads_stopped}}
 use Rattle.office_loading.{specs.{Decoded.itself, Tables.ReadsTable}, proofs.VersionLemmas.from_first}
-use Rattle.office_closing.specs.{declared.register.Segment.Segment, Reading.FitsSegment, Stored.ShowsTaken, Tables.{has_table, whole, register_schema}}
-use Rattle.office_closing.proofs.WriteTexts.{taken_read_in, taken_missing, whole_by}
+use Rattle.office_closing.specs.{declared.register.Segment.Segment, Reading.FitsSegment, Stored.ShowsTaken, Tables.{has_table, whole, schema_in}}
+use Rattle.office_closing.proofs.WriteTexts.{taken_read_in, taken_missing}
 use Rattle.office_closing.specs.declared.register_reading.Later.TheVariants as later
 use Rattle.office_closing.proofs.register_reading.read_taken.Goals as goal
 
@@ -21,7 +21,7 @@ returns-then-there-clause-read g c clean layout is =
     let db = (state g.S.Store c.args.conn.now).now in
     let has : has_table later.Taken layout ≡ true = sym (c.in_ok-there.ensures.layout (clean_first c.read_all_taken.ensures.reads clean) layout is) ∙ c.if-there.true in
     taken_read_in itself layout db c.read_all_taken.result has
-    (from_first (λ (d : Database). ReadsTable itself FitsSegment (ShowsTaken whole d) c.read_all_taken.result) register_schema c.in_ok-there.ensures.reads c.read_all_taken.ensures.reads c.read_all_taken.ensures.read clean (is ∙ whole_by layout has))
+    (from_first (λ (d : Database). ReadsTable itself FitsSegment (ShowsTaken whole d) c.read_all_taken.result) (schema_in layout) c.in_ok-there.ensures.reads c.read_all_taken.ensures.reads (λ last. c.read_all_taken.ensures.read last layout has) clean is)
 
 pub returns-then-there-clause-reads : goal.returns-then-there-clause-reads
 returns-then-there-clause-reads g c = c.in_ok-there.ensures.reads then c.read_all_taken.ensures.reads

@@ -7,7 +7,7 @@ pub select-requires : goal.select-requires
 select-requires g c = taken_shows
 
 pub returns-clause-shown : goal.returns-clause-shown
-returns-clause-shown g c clean is =
+returns-clause-shown g c clean layout there is =
     let old = state g.S.Store c.args.conn.now in
     let new = state g.S.Store c.select.new.conn in
-    if_ok c.select.result (λ answer shown. lists_taken old new is answer.items shown) (c.select.ensures.shown clean)
+    if_ok c.select.result (λ answer shown. lists_taken old new layout there is answer.items shown) (c.select.ensures.shown clean)

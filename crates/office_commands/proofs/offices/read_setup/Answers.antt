@@ -1,6 +1,6 @@
 use Rattle.std.proofs.{Common.{◌≡◌, ap, subst}, lemmas.Result.err_from_is_err_and}
 use Rattle.sqlite.specs.{Effect.Database, Held.state}
-use Rattle.office_admission.specs.Setups.{SetupContent}
+use Rattle.office_admission.specs.Setups.{SetupContent, setup_content}
 use Rattle.office_rows.specs.Tables.{office_schema}
 use Rattle.office_loading.specs.{Closed.ClosedContent, Tables.LoadsOwn}
 use Rattle.office_tables.proofs.{MadeLemmas.clean_first, WriteLemmas.{one_read, only_on}}
@@ -31,3 +31,7 @@ pub returns-in_err-setup-clause-refused : goal.returns-in_err-setup-clause-refus
 returns-in_err-setup-clause-refused g c =
     let p = err_from_is_err_and c.from_residual-in_err-setup.result c.from_residual-in_err-setup.ensures.1 in
     λ clean now_open schema. rw (p.1, p.2) (unloaded _ _ _ _ c.in_ok-closed.ensures (c.in_err-setup.ensures.refused clean now_open schema))
+
+pub returns-clause-loads : goal.returns-clause-loads
+returns-clause-loads g c clean schema =
+    subst (λ (k : ClosedContent). LoadsOwn k (state g.S.Store c.args.looked.now.conn).committed (setup_content c.in_ok-setup.setup) c.in_ok-setup.there.terminal) c.in_ok-closed.ensures (c.in_ok-setup.ensures.loaded clean schema)

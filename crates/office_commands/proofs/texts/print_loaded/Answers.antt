@@ -2,7 +2,7 @@ use Rattle.std.proofs.Common.{inl, inr, sym, ap, ◌∙◌}
 use Rattle.office_closing.specs.Register.{register_content}
 use Rattle.office_loading.specs.Closed.{closed_content}
 use Rattle.office_commands.{specs.Printing.{PrintsOf, PrintsTexts}, proofs.{KeptTextLemmas.prints_of, TextLemmas.printed_alone}}
-use Rattle.office_commands.proofs.OpenLemmas.{closes_nothing, empty_if, loaded_as, of_that_day, opened_over, opened_whole, opens_at, opens_on}
+use Rattle.office_commands.proofs.OpenLemmas.{closes_nothing, empty_if, loaded_as, of_that_day, of_that_terminal, opened_over, opened_whole, opens_at, opens_on}
 use Rattle.office_commands.proofs.texts.print_loaded.Goals as goal
 
 -- Nothing was put away: the store shows what its files held, and was only read.
@@ -46,7 +46,7 @@ returns g c found image shows loaded =
       opens = opens_on g.S.Store image found opened shows (opened_over g.S.Store found opened was.there its made.ensures.beside (λ sound db left. g.met.S.Store.settled opened.conn.store db sound.1 left));
       printed = inr (record {
         shelf = c.shelf_of-shelf.result;
-        beside = record { sound = was.sound; closed = ap closed_content made.ensures.closed ∙ was.closed_is; of_day = of_that_day (register_content was.register) opened was.there made.ensures.beside c.requires; these = c.shelf_of-shelf.ensures };
+        beside = record { sound = was.sound; closed = ap closed_content made.ensures.closed ∙ was.closed_is; of_day = of_that_day (register_content was.register) opened was.there made.ensures.beside c.requires.of_day; of_terminal = of_that_terminal (register_content was.register) opened was.setup made.ensures.setup c.requires.of_terminal; these = c.shelf_of-shelf.ensures };
         prints = c.print_journal.ensures.prints;
         reads = c.print_journal.ensures.reads;
       });

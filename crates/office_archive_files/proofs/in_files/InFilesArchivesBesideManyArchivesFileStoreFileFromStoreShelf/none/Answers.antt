@@ -6,5 +6,5 @@ use Rattle.office_archive_files.proofs.in_files.InFilesArchivesBesideManyArchive
 
 pub returns : goal.returns
 returns g c =
-    none_shelved over_files _ _ c.new.result.shelf c.new.result.register c.new.result.opened (none_held (image_at g.B.Start) g.B.ArchiveStart.place)
+    none_shelved over_files _ _ c.new.result.shelf c.new.result.register c.new.result.opened.items (none_held (image_at g.B.Start) g.B.ArchiveStart.place)
     (ap register_content c.new.ensures.register ∙ c.no_archives.ensures) c.new.ensures.opened

@@ -1,40 +1,12 @@
-use Rattle.std.proofs.Common.{rules, sym, ap, subst, ◌∙◌}
-use Rattle.sqlite.specs.{Files.over_files, WalFiles.image_at}
-use Rattle.office_loading.specs.{Closed.closed_content, Tables.LoadsOwn}
-use Rattle.office_rows.specs.Stored.{HasRows}
-use Rattle.office_admission.specs.Setups.{setup_content}
-use Rattle.office_tables.proofs.MadeLemmas.{clean_first}
-use Rattle.office_archive_files.{specs.Archives.Reaches, proofs.ShelfLemmas.{opened_at, shown_after}}
+use Rattle.sqlite.specs.Files.{over_files}
+use Rattle.office_archives.proofs.Rising.{open_read}
 use Rattle.office_archive_files.proofs.shelf.FileShelf.opened.Goals as goal
 
 -- What was opened was only read.
-pub returns-then-reaches-clause-opened : goal.returns-then-reaches-clause-opened
-returns-then-reaches-clause-opened g c list hold =
-    opened_at _ list c.args.place c.in_ok-archive.archive.conn c.load.new.self.conn c.in_ok-archive.ensures.found
-    (λ clean. clean_first c.load.ensures.reads clean) (λ clean. (c.in_ok-setup.ensures.reads.unchanged clean).0.committed_is) hold
+pub returns-then-is_own-clause-opened : goal.returns-then-is_own-clause-opened
+returns-then-is_own-clause-opened g c list hold =
+    open_read over_files list c.args.place c.in_ok-archive.archive.conn c.is_own.new.archive.conn c.is_own.ensures.reads (c.in_ok-archive.ensures.opened list hold)
 
 -- It shows what was read of it.
-pub returns-then-reaches-clause-passes : goal.returns-then-reaches-clause-passes
-returns-then-reaches-clause-passes g c =
-    let named = c.in_ok-named.named in
-    let content = setup_content c.in_ok-setup.setup in
-    let beside = c.in_ok-setup.beside in
-    let closed = closed_content named.closed in
-    record {
-      shows = shown_after over_files (image_at g.B.Start) c.in_ok-archive.archive.conn c.load.new.self.conn (λ clean. clean_first c.load.ensures.reads clean) (λ clean. (c.in_ok-setup.ensures.reads.unchanged clean).0.committed_is) c.in_ok-archive.ensures.found;
-      read = record {
-        closed = closed;
-        segments = named.segments.items;
-        visits = named.visits;
-        content = content;
-        terminal = beside.terminal;
-        nexts = beside.nexts.items;
-        named = c.in_ok-named.ensures;
-        office = c.is_same_office.ensures.0 (search rules);
-        reaches = subst (λ segments. Reaches segments named.visits beside.nexts.items beside.terminal) c.deref.ensures.value (c.reaches.ensures.0 (search rules));
-      };
-      loads = λ clean schema.
-          let same = (c.in_ok-setup.ensures.reads.unchanged clean).0.committed_is in
-          subst (λ db. LoadsOwn closed db content beside.terminal) (sym same) (c.in_ok-setup.ensures.loaded clean (sym (ap (λ db. db.schema) same) ∙ schema));
-      are_nexts = λ clean rows has. c.in_ok-setup.ensures.nexts clean rows (subst (HasRows rows) (c.in_ok-setup.ensures.reads.unchanged clean).0.committed_is has);
-    }
+pub returns-then-is_own-clause-passes : goal.returns-then-is_own-clause-passes
+returns-then-is_own-clause-passes g c = c.in_ok-is_own.ensures.passes c.in_ok-archive.ensures.shows c.if-is_own.true

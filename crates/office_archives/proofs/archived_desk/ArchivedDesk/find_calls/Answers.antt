@@ -1,8 +1,7 @@
-use Rattle.std.proofs.{Common.{◌≡◌, List, option_map, string_bytes, sym, ap, subst, ◌∙◌}, lemmas.Result.err_from_is_err_and}
+use Rattle.std.proofs.{Common.{◌≡◌, Bool, List, arith, length, option_map, string_bytes, sym, subst}, lemmas.List.take_all, lemmas.Result.err_from_is_err_and}
 use Rattle.office_parts.specs.Archives.{Archive}
 use Rattle.office_desk.specs.Reports.{DeskTells}
-use Rattle.office_archives.{specs.{Telling.archives_with_lists, Together.TellsBeside}, proofs.{Beside.calls_beside, Together.looks_on}}
-use Rattle.office_archives.proofs.archived_desk.ArchivedDesk.find_calls.Goals.{then-has_lists, else-has_lists}
+use Rattle.office_archives.{specs.{Telling.{SaysIfAway, archives_with_lists}, Together.TellsBeside}, proofs.{Beside.calls_beside, Together.looks_on}}
 use Rattle.office_archives.proofs.archived_desk.ArchivedDesk.find_calls.Goals as goal
 
 pub returns-clause-told : goal.returns-clause-told
@@ -10,13 +9,14 @@ returns-clause-told g c = λ sound whole.
     let self = c.args.self.now in
     let told = option_map string_bytes c.in_ok-told.told in
     let found = option_map string_bytes c.in_ok-with_archives.field-0 in
-    let counted : (list : List Archive) → g.A.Archives.are list self.archives → c.if-has_lists.count ≡ archives_with_lists list c.has_lists.result =
-    λ list these. elim c.if-has_lists.branch [
-      | then-has_lists w ↦ w.count-is ∙ w.count-count.ensures list these ∙ ap (archives_with_lists list) (sym w.if-has_lists.true)
-      | else-has_lists w ↦ w.count-is ∙ ap (archives_with_lists list) (sym w.if-has_lists.false)
-    ] in
+    let counted : (list : List Archive) → g.A.Archives.are list self.archives → (put_away : Bool) × SaysIfAway list put_away × (c.archives_with_lists-count.result ≡ archives_with_lists list put_away) =
+    λ list these.
+    let many : c.count.result ≡ length list = c.count.ensures list these in
+    let there = c.archives_with_lists-count.ensures list these (omega (arith, many)) in
+    subst (λ first. (put_away : Bool) × SaysIfAway first put_away × (c.archives_with_lists-count.result ≡ archives_with_lists first put_away)) (take_all c.count.result list (omega (arith, many))) there
+    in
     subst (λ q. TellsBeside g.S.Store g.A.Archives.are self.desk self.archives q found) (sym c.requires)
-    (calls_beside g.S.Store g.A.Archives.are self.desk self.archives told found c.has_lists.result c.if-has_lists.count c.has_lists.ensures.none c.has_lists.ensures.some counted
+    (calls_beside g.S.Store g.A.Archives.are self.desk self.archives told found c.archives_with_lists-count.result counted
     (subst (λ q. DeskTells g.S.Store self.desk q told) c.requires (c.in_ok-told.ensures.told sound)) c.in_ok-with_archives.ensures)
 
 pub returns-clause-looks : goal.returns-clause-looks

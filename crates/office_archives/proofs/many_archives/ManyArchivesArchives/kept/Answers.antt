@@ -1,38 +1,16 @@
 use Rattle.std.{specs.Option.option_and_then, proofs.Common.{◌≡◌, Some, sym, ap, subst, ◌∙◌}}
 use Rattle.partner_core.proofs.Orders.{some_of}
-use Rattle.office_tables.{specs.Answers.IsKept, proofs.MadeLemmas.clean_first}
+use Rattle.office_tables.specs.Answers.{IsKept}
 use Rattle.office_parts.specs.Archives.{archive_of}
-use Rattle.office_archives.{specs.Shelves.{IsOpenAt, archive_at}, proofs.{Rising.{open_still, shelved_still}, Filled.told_by}}
+use Rattle.office_archives.{specs.Shelves.archive_at, proofs.{Rising.told_archive, Filled.told_by}}
 use Rattle.office_archives.proofs.many_archives.ManyArchivesArchives.kept.Goals as goal
 
-pub returns-in-Some-found-clause-kept : goal.returns-in-Some-found-clause-kept
-returns-in-Some-found-clause-kept g c sound archives are closed =
+pub returns-in-Some-2-clause-kept : goal.returns-in-Some-2-clause-kept
+returns-in-Some-2-clause-kept g c last archives are closed =
+    let self = c.args.self.now in
     let p = c.args.partner in
     let n = c.args.number in
-    let place = c.in-Some.place in
     let reached = some_of (archive_of archives p n) closed.1 in
-    let at : archive_at archives place ≡ Some reached.0 = sym (are.are_named.named p n closed.0 ∙ ap (option_and_then (archive_at archives)) (sym c.archive_of.ensures ∙ c.in-Some.is)) ∙ reached.1 in
-    let known = subst g.F.Shelf.is_known c.in_ok-opened.ensures.place sound.2 in
-    let there = c.in_ok-opened.ensures.opened known archives are (clean_first c.kept.ensures.reads sound.0) ((c.kept.ensures.reads.keeps sound.0).was_open sound.1) reached.0 at in
-    let kept = c.in_ok-found.ensures.answer sound.0 reached.0.rows there.has in
-    told_by archives reached.0 p n c.in-Some-found.kept reached.1 there.kept_once (subst (IsKept p n reached.0.rows) c.in-Some-found.is kept)
-
-pub returns-in-Some-found-clause-same : goal.returns-in-Some-found-clause-same
-returns-in-Some-found-clause-same g c list are =
-    let self = c.args.self.now in
-    let reads = c.kept.ensures.reads in
-    let there : g.F.Shelf.is_known c.in_ok-opened.opened.place → IsOpenAt g.S.Store list c.in_ok-opened.opened.place c.in_ok-opened.opened.archive.conn =
-    λ known. subst (λ place. IsOpenAt g.S.Store list place c.in_ok-opened.opened.archive.conn) (sym c.in_ok-opened.ensures.place) (c.in_ok-opened.ensures.opened (subst g.F.Shelf.is_known c.in_ok-opened.ensures.place known) list are) in
-    shelved_still g.S.Store g.F.Shelf.is_known g.F.Shelf.holds list self.shelf _ self.register _ self.opened _ are c.take_out.ensures.register (c.take_out.ensures.shelf list are.on_shelf)
-    (λ known. open_still g.S.Store list c.in_ok-opened.opened.place c.in_ok-opened.opened.archive.conn c.kept.new.self.conn (λ clean. clean_first reads clean) (λ clean now_open. (reads.keeps clean).was_open now_open)
-    (λ clean now_open. (reads.keeps clean).committed now_open) (there known))
-
-pub returns-in-None-clause-same : goal.returns-in-None-clause-same
-returns-in-None-clause-same g c list are =
-    let self = c.args.self.now in
-    let reads = c.kept.ensures.reads in
-    let there : g.F.Shelf.is_known c.in_ok-opened.opened.place → IsOpenAt g.S.Store list c.in_ok-opened.opened.place c.in_ok-opened.opened.archive.conn =
-    λ known. subst (λ place. IsOpenAt g.S.Store list place c.in_ok-opened.opened.archive.conn) (sym c.in_ok-opened.ensures.place) (c.in_ok-opened.ensures.opened (subst g.F.Shelf.is_known c.in_ok-opened.ensures.place known) list are) in
-    shelved_still g.S.Store g.F.Shelf.is_known g.F.Shelf.holds list self.shelf _ self.register _ self.opened _ are c.take_out.ensures.register (c.take_out.ensures.shelf list are.on_shelf)
-    (λ known. open_still g.S.Store list c.in_ok-opened.opened.place c.in_ok-opened.opened.archive.conn c.kept.new.self.conn (λ clean. clean_first reads clean) (λ clean now_open. (reads.keeps clean).was_open now_open)
-    (λ clean now_open. (reads.keeps clean).committed now_open) (there known))
+    let at : archive_at archives c.in-Some.place ≡ Some reached.0 = sym (are.are_named.named p n closed.0 ∙ ap (option_and_then (archive_at archives)) (sym c.archive_of.ensures ∙ c.in-Some.is)) ∙ reached.1 in
+    let told = told_archive g.S.Store g.F.Shelf.is_known g.F.Shelf.holds archives self.shelf self.register self.opened.items _ c.in-Some.place _ reached.0 c.in_ok-kept.ensures.told last are at in
+    told_by archives reached.0 p n c.in-Some-2.kept reached.1 told.1 (subst (IsKept p n reached.0.rows) c.in-Some-2.is told.0.1)
