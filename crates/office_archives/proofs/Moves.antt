@@ -7,7 +7,7 @@ use Rattle.edi_messages.specs.{declared.codes.PartnerKind.PartnerKind, Purposes.
 use Rattle.edi_messages.specs.Orders.{EntryContent, OrderContent, gate_in, gate_out, move, list_discharge, list_load, discharge, load}
 use Rattle.partner_core.specs.Deliveries.{run}
 use Rattle.terminal_core.specs.{declared.visits.Departure.Departure, Rows.VisitContent, Versions.spares_empty, declared.change.Version.Version}
-use Rattle.terminal_core.specs.{State.{TerminalState, LineContent, line_of, is_in, is_open_visit, is_visit_of}, declared.lines.LineState.LineState}
+use Rattle.terminal_core.specs.{State.{TerminalState, LineContent, last_number, line_of, is_in, is_open_visit, is_visit_of}, declared.lines.LineState.LineState}
 use Rattle.terminal_core.specs.{declared.lines.LineState.TheVariants.{Pending, Done as LineIsDone}, declared.change.Outcome.Outcome, declared.lines.Side.Side}
 use Rattle.terminal_core.specs.{declared.change.Outcome.TheVariants.Refused, declared.change.Reason.TheVariants.{AlreadyIn, NotIn, VisitLimit}}
 use Rattle.terminal_core.specs.{declared.lines.Side.TheVariants.{Load, Discharge}, declared.change.Source.Source, declared.visits.Way.Way}
@@ -136,9 +136,11 @@ partners_told content es archived own whole asked what are is told = at asked is
     at other is told = absurd is
 
 gauges_kept : (stays : ℕ → Bool) (state : TerminalState) (limit : ℕ) (partners : List PartnerContent) → count_by is_here (own_visits stays state.visits) ≡ count_by is_here state.visits
+    → last_number (own_visits stays state.visits) ≡ last_number state.visits
     → gauges (own_terminal stays state) limit partners ≡ map (with_visits (length (own_visits stays state.visits))) (gauges state limit partners)
-gauges_kept stays state limit partners here =
-    ap₂ ◌∷◌ refl (ap₂ ◌∷◌ (ap (gauge (codes "office_containers") (codes "Containers in the yard.")) here) refl)
+gauges_kept stays state limit partners here newest =
+    ap₂ ◌∷◌ refl (ap₂ ◌∷◌ (ap (gauge (codes "office_containers") (codes "Containers in the yard.")) here)
+    (ap₂ ◌∷◌ refl (ap₂ ◌∷◌ (ap (gauge (codes "office_visits_ever") (codes "Visits recorded, put away ones too.")) newest) refl)))
 
 pub metrics_told : MetricsAreTold
 metrics_told content es archived own whole what are told =
@@ -152,7 +154,7 @@ metrics_told content es archived own whole what are told =
       tells = (
         found.0,
         all_looked_up content es archived own whole are 1 now.partners found.0 found.1,
-        found.2 ∙ ap (λ l. Some (flat_map gauge_text l ++ versions_text program_version tables_version)) (gauges_kept archived.stays state now.visit_limit found.0 (here_kept archived.stays state.visits may.over)),
+        found.2 ∙ ap (λ l. Some (flat_map gauge_text l ++ versions_text program_version tables_version)) (gauges_kept archived.stays state now.visit_limit found.0 (here_kept archived.stays state.visits may.over) may.newest),
       );
     } in
     (told.0, own_told, told.2)
