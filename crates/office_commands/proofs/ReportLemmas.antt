@@ -3,7 +3,7 @@ use Rattle.std.specs.Prelude.{length, string_bytes}
 use Rattle.std.proofs.Common.{◌≡◌, inl, inr, ℕ, List, Option, Some, option_map, ap, sym, subst, ◌∙◌}
 use Rattle.sqlite.specs.{Effect.Database, Held.state, Tree.Trees}
 use Rattle.sqlite_trees.specs.declared.store.Store.{Ghosts}
-use Rattle.terminal_core.specs.State.{TerminalState}
+use Rattle.terminal_core.specs.State.{TerminalState, last_number}
 use Rattle.office_replies.specs.Events.{Event}
 use Rattle.office_admission.specs.{Parties.partner_from, Setups.{SetupContent, setup_content}}
 use Rattle.office_rows.specs.{Opening.tables_version, Rows.Rows, Stored.HasRows}
@@ -71,7 +71,7 @@ module _ (one other : SetupContent) (says : SaysSame one other) where
     (
       told.2.0,
       told.2.1,
-      told.2.2 ∙ (λ i. Some (value.start (says.terminal i) (record { visits = length state.visits; limit = says.limit i; partners = partners_of told.0; lists = lists_in (finite_map.entries state.lines); blocks = told.2.0 }))),
+      told.2.2 ∙ (λ i. Some (value.start (says.terminal i) (record { visits = length state.visits; visits_ever = last_number state.visits; limit = says.limit i; partners = partners_of told.0; lists = lists_in (finite_map.entries state.lines); blocks = told.2.0 }))),
     ),
   )
   of_alike state rows (about.Expected container) what told = told
