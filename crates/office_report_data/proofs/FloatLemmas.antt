@@ -1,6 +1,7 @@
 -- A report has no float, so its text is known.
-use Rattle.std.{specs.Prelude.◌==◌, proofs.Common.{◌≡◌, ℕ, ℤ, pos, negsuc, List, [], ◌∷◌, Bool, true, false, cond, Option, Some, None, map, refl}}
-use Rattle.serde_json.specs.{Data.{Data, null, number, unsigned}, Find.of_integer, View.items_of, Written.{has_float, items_have_float}}
+use Rattle.std.{specs.Prelude.◌==◌, proofs.Common.{◌≡◌, ◌∙◌, ap, ℕ, ℤ, pos, negsuc, List, [], ◌∷◌, Bool, true, false, cond, Option, Some, None, map, refl}}
+use Rattle.std.proofs.{Common.{Global, IfOk, Result, String, string_bytes}, lemmas.Result.IfOk-weaker}
+use Rattle.serde_json.specs.{Data.{Data, null, number, unsigned}, Find.of_integer, View.items_of, Written.{compact_text, has_float, items_have_float}}
 use Rattle.edi_syntax.specs.Moments.{CivilMoment}
 use Rattle.terminal_core.specs.{declared.visits.Departure.Departure, Rows.VisitContent, State.{LineContent, LineKey}}
 use Rattle.office_admission.specs.Setups.{SetupContent}
@@ -10,6 +11,13 @@ use Rattle.office_report_data.specs.{Blocks.block_data, Calls.call_data, Contain
 use Rattle.office_report_data.specs.{Partners.{partner_data, waiting_data}, Tickets.{closed_data, exit_data, opened_data}, Visits.{days_data, visit_data}}
 use Rattle.office_report_data.specs.Words.{number_or_null, or_null, text_or_null}
 use Rattle.office_report_data.specs.Work.{job_data, size_or_null, slot_or_null}
+
+-- what is written of a value without float
+pub told_text : {E : Type 0} (result : Result (String Global) E) (value told : Data) → value ≡ told → has_float told ≡ false
+    → IfOk result (λ text. has_float value ≡ false → string_bytes text ≡ compact_text value)
+    → IfOk result (λ text. string_bytes text ≡ compact_text told)
+told_text result value told is floatless written =
+    IfOk-weaker result _ _ (λ text known. known (ap has_float is ∙ floatless) ∙ ap compact_text is) written
 
 -- ---- what may be null
 
