@@ -1,15 +1,23 @@
 -- A report has no float, so its text is known.
-use Rattle.std.{specs.Prelude.◌==◌, proofs.Common.{◌≡◌, ℕ, ℤ, pos, negsuc, List, [], ◌∷◌, Bool, true, false, cond, Option, Some, None, map, refl}}
-use Rattle.serde_json.specs.{Data.{Data, null, number, unsigned}, Find.of_integer, View.items_of, Written.{has_float, items_have_float}}
+use Rattle.std.{specs.Prelude.◌==◌, proofs.Common.{◌≡◌, ◌∙◌, ap, ℕ, ℤ, pos, negsuc, List, [], ◌∷◌, Bool, true, false, cond, Option, Some, None, map, refl}}
+use Rattle.std.proofs.{Common.{Global, IfOk, Result, String, string_bytes}, lemmas.Result.IfOk-weaker}
+use Rattle.serde_json.specs.{Data.{Data, null, number, unsigned}, Find.of_integer, View.items_of, Written.{compact_text, has_float, items_have_float}}
 use Rattle.edi_syntax.specs.Moments.{CivilMoment}
 use Rattle.terminal_core.specs.{declared.visits.Departure.Departure, Rows.VisitContent, State.{LineContent, LineKey}}
 use Rattle.office_admission.specs.Setups.{SetupContent}
-use Rattle.office_reports.specs.{declared.blocks.BlockRow.BlockRow, declared.yard.Standing.Standing, Containers.{ContainerContent, StayContent}}
+use Rattle.office_reports.specs.{declared.blocks.BlockRow.BlockRow, declared.calls.ListCount.ListCount, declared.yard.Standing.Standing, Containers.{ContainerContent, StayContent}}
 use Rattle.office_reports.specs.{Partners.PartnerRowContent, Passages.departure_by, Work.JobContent}
-use Rattle.office_report_data.specs.{Blocks.block_data, Containers.{container_data, line_data, passage_data, stay_data}, Lists.listed_data, Yard.standing_data}
+use Rattle.office_report_data.specs.{Blocks.block_data, Calls.call_data, Containers.{container_data, line_data, passage_data, stay_data}, Lists.listed_data, Yard.standing_data}
 use Rattle.office_report_data.specs.{Partners.{partner_data, waiting_data}, Tickets.{closed_data, exit_data, opened_data}, Visits.{days_data, visit_data}}
 use Rattle.office_report_data.specs.Words.{number_or_null, or_null, text_or_null}
 use Rattle.office_report_data.specs.Work.{job_data, size_or_null, slot_or_null}
+
+-- what is written of a value without float
+pub told_text : {E : Type 0} (result : Result (String Global) E) (value told : Data) → value ≡ told → has_float told ≡ false
+    → IfOk result (λ text. has_float value ≡ false → string_bytes text ≡ compact_text value)
+    → IfOk result (λ text. string_bytes text ≡ compact_text told)
+told_text result value told is floatless written =
+    IfOk-weaker result _ _ (λ text known. known (ap has_float is ∙ floatless) ∙ ap compact_text is) written
 
 -- ---- what may be null
 
@@ -63,6 +71,9 @@ visit_has_no_float setup visit =
 
 pub partner_has_no_float : (row : PartnerRowContent) → has_float (partner_data row) ≡ false
 partner_has_no_float row = rw (option_has_none waiting_data row.waiting (λ waiting. refl)) refl
+
+pub call_has_no_float : (vessel voyage side : List ℕ) (count : ListCount) → has_float (call_data (vessel ∷ voyage ∷ side ∷ [], count)) ≡ false
+call_has_no_float vessel voyage side count = refl
 
 pub block_has_no_float : (row : BlockRow) → has_float (block_data row) ≡ false
 unfolding block_data

@@ -45,6 +45,7 @@ fn push_lists(
     text.push_str("]")
 }
 
+#[tactic(auto, using(crate::proofs::FloatLemmas::call_has_no_float))]
 fn list_text(
     alloc: Global,
     vessel: &str,

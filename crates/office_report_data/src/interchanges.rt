@@ -27,7 +27,6 @@ use std::alloc::{AllocError, Global};
 /// `text`. A message has `call`, `fault` (why it is rejected), `kind`, `lines`, `reference` and `replaces`; a line `booking`,
 /// `container`, `fault`, `gross` in kilograms, `line` (its number), `load`, `moment`, `outcome` (`blocker`, `name`, `reason`,
 /// `slot`; `null` while it waits), `port`, `size_type` and the `slot` that is asked for. `null` is for nothing.
-#[tactic(auto, using(crate::proofs::LastFloats::interchange_has_no_float))]
 pub fn interchange_json(alloc: Global, report: &InterchangeReport<'_>) -> Result<String, AllocError>
     ensures { IfOk result (λ text. string_bytes text
         ≡ compact_text (interchange_data (interchange_content report.now))) }

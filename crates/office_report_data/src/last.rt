@@ -41,7 +41,6 @@ fn push_rows(alloc: Global, text: &mut String, rows: &[LastRow<'_>]) -> Result<(
     text.push_str("]")
 }
 
-#[tactic(auto, using(crate::proofs::LastFloats::last_row_has_no_float))]
 fn row_text(alloc: Global, row: &LastRow<'_>) -> Result<String, AllocError>
     ensures { IfOk result (λ text. string_bytes text ≡ compact_text (last_row_data (last_row_content row.now))) }
 {
