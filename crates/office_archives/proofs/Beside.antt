@@ -198,7 +198,7 @@ module _ {S A : Type 0} (g : Ghosts S) (are : List Archive → A → Type 0) (ol
       let s = stand.stands in
       let here = told_here content es stand asked told tells in
       subst (TellsTogether content es stand.list s.archived s.whole asked)
-      (ap (λ k. shown_beside k asked.view here.0) (sym (counted stand.list stand.these)) ∙ sym (same here.0 (container_asked _ _ _ asked.about here.0 is here.1) here.2))
+      (ap (λ k. shown_beside k asked.view here.0) (sym (counted stand.list stand.these)) ∙ sym (same here.0 (container_asked (content_after content es) (without_lists s.away (Mine content es stand)) (rows_without_lists s.away s.rows) asked.about here.0 is here.1) here.2))
       (container_told content es stand.list s.archived s.own s.whole s.rows s.parts s.is_own asked.about asked.view here.0 s.hold is (filled_here content es stand asked.about here.0 is here.1))
 
   -- the open lines that name a container
@@ -277,7 +277,7 @@ module _ {S A : Type 0} (g : Ghosts S) (are : List Archive → A → Type 0) (ol
         were_put_away = λ list e. ap is_some (s.lists.kept list e).are;
         put_away = put.0;
         says = put.1;
-        told = same here.0 (calls_asked _ _ _ about.Calls here.0 refl here.1) here.2 ∙ ap (λ k. shown_beside k view here.0) put.2 ∙ ap (shown_beside (archives_with_lists stand.list put.0) view) here.1;
+        told = same here.0 (calls_asked (content_after content es) (without_lists s.away (Mine content es stand)) (rows_without_lists s.away s.rows) about.Calls here.0 refl here.1) here.2 ∙ ap (λ k. shown_beside k view here.0) put.2 ∙ ap (shown_beside (archives_with_lists stand.list put.0) view) here.1;
       }
 
   -- a list that is not away, by a desk that was looked at
