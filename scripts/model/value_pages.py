@@ -582,16 +582,16 @@ def contrl(office, partner, number):
 
 # ---- the start page
 
-def attention(rows, visit_number, limit):
-    """Partners whose number is missing, and visits from nine tenths of those that may be recorded; or that nothing waits."""
+def attention(rows, visits_ever, limit):
+    """Partners whose number is missing, and visits from nine tenths of those that there may ever be; or that nothing waits."""
     lines = ["<li>%s<span><a href='/pages/partners/%s'>%s</a> waits for number <b>%d</b>: %s came after it, %d to %d</span></li>\n" % (
         state('wait', 'number missing'), address(code), escaped(code), expected, count(len(numbers)), numbers[0], numbers[-1])
              for code, _kind, expected, numbers in rows if numbers]
-    if visit_number * 10 >= limit * 9:
-        lines.append('<li>%s<span>%s of %s visits recorded: close soon, or nothing can enter</span></li>\n' % (
-            state('bad', 'nearly full'), count(visit_number), count(limit)))
+    if visits_ever * 10 >= limit * 9:
+        lines.append('<li>%s<span>%s of %s visits so far: begin a new store soon, or nothing can enter</span></li>\n' % (
+            state('bad', 'nearly full'), count(visits_ever), count(limit)))
     if not lines:
-        return "<p class='fine'>Nothing waits, and there is room for %s more visits.</p>\n</section>\n" % count(limit - visit_number)
+        return "<p class='fine'>Nothing waits, and there is room for %s more visits.</p>\n</section>\n" % count(limit - visits_ever)
     return "<ul class='todo'>\n" + ''.join(lines) + '</ul>\n</section>\n'
 
 
@@ -608,7 +608,8 @@ def start(office):
     terminal, rows, lists = office.fold().terminal, partner_rows(office), lists_of(office)
     name, visit_number = escaped(office.setup.terminal), len(own_visits(office))
     pending = [row for row in lists if row[2]]
-    body = '<h1><small>Office of</small> %s</h1>\n<section>\n<h2>Needs attention</h2>\n' % name + attention(rows, visit_number, office.setup.most_visits)
+    body = '<h1><small>Office of</small> %s</h1>\n<section>\n<h2>Needs attention</h2>\n' % name
+    body += attention(rows, len(terminal.visits), office.setup.most_visits)
     body += sums(terminal, rows, visit_number)
     body += '<section>\n<h2>Calls with open work <small>%s of %s lists</small></h2>\n' % (count(len(pending)), count(len(lists)))
     body += table(CALLS, [call_row(*row) for row in pending], 'No list has an open line.') + blocks_section(terminal)

@@ -7,10 +7,11 @@ use Rattle.office_reports.specs.{Partners.{PartnerRowContent, PartnersContent, W
 use Rattle.office_pages.specs.{Blocks.blocks_section, Calls.{call_columns, call_row}, Fixed.foot, Frame.page_top, Partners.is_waiting, Tables.table_of}
 use Rattle.office_pages.specs.{Pieces.{Count, Digits, Markup, Part, Text, pieces_text}, declared.start.StartReport.StartReport}
 
--- what the start page tells: how many visits are recorded, and how many may be; what is expected of the partners; the
--- lists of the calls; and the blocks
+-- what the start page tells: how many visits are recorded, how many ever were, and how many there may ever be; what is
+-- expected of the partners; the lists of the calls; and the blocks
 pub record StartContent : Type 0 where
   pub visits : ℕ
+  pub visits_ever : ℕ
   pub limit : ℕ
   pub partners : PartnersContent
   pub lists : List (LineKey × ListCount)
@@ -33,25 +34,26 @@ missing_by row (Some waiting) = missing_line row.code row.next waiting
 abbrev pub missing : PartnerRowContent → List ℕ
 missing row = missing_by row row.waiting
 
--- nine tenths of the visits that may be recorded are recorded, or more
-abbrev pub is_nearly_full : (visits limit : ℕ) → Bool
-is_nearly_full visits limit = nat_le (limit * 9) (visits * 10)
+-- nine tenths of the visits that there may ever be were recorded, or more
+abbrev pub is_nearly_full : (visits_ever limit : ℕ) → Bool
+is_nearly_full visits_ever limit = nat_le (limit * 9) (visits_ever * 10)
 
-abbrev pub nearly_full : (visits limit : ℕ) → List ℕ
-nearly_full visits limit =
-    if is_nearly_full visits limit then pieces_text
-    (Markup (codes "<li><b class='s bad'>nearly full</b><span>") ∷ Count visits ∷ Markup (codes " of ") ∷ Count limit
-    ∷ Markup (codes " visits recorded: close soon, or nothing can enter</span></li>\n") ∷ [])
+-- putting visits away makes no room
+abbrev pub nearly_full : (visits_ever limit : ℕ) → List ℕ
+nearly_full visits_ever limit =
+    if is_nearly_full visits_ever limit then pieces_text
+    (Markup (codes "<li><b class='s bad'>nearly full</b><span>") ∷ Count visits_ever ∷ Markup (codes " of ") ∷ Count limit
+    ∷ Markup (codes " visits so far: begin a new store soon, or nothing can enter</span></li>\n") ∷ [])
     else []
 
 -- nothing needs attention
 abbrev pub is_quiet : StartContent → Bool
-is_quiet report = count_by is_waiting report.partners.rows == 0 && not (is_nearly_full report.visits report.limit)
+is_quiet report = count_by is_waiting report.partners.rows == 0 && not (is_nearly_full report.visits_ever report.limit)
 
 abbrev pub attention_list : StartContent → List ℕ
 attention_list report =
     pieces_text (Markup (codes "<ul class='todo'>\n") ∷ []) ++ flat_map missing report.partners.rows
-    ++ nearly_full report.visits report.limit ++ pieces_text (Markup (codes "</ul>\n</section>\n") ∷ [])
+    ++ nearly_full report.visits_ever report.limit ++ pieces_text (Markup (codes "</ul>\n</section>\n") ∷ [])
 
 abbrev pub quiet_line : (room : ℕ) → List ℕ
 quiet_line room = pieces_text
@@ -59,7 +61,7 @@ quiet_line room = pieces_text
     ∷ Markup (codes " more visits.</p>\n</section>\n") ∷ [])
 
 abbrev pub attention : StartContent → List ℕ
-attention report = if is_quiet report then quiet_line (report.limit - report.visits) else attention_list report
+attention report = if is_quiet report then quiet_line (report.limit - report.visits_ever) else attention_list report
 
 -- ---- how much there is of what
 
@@ -115,6 +117,7 @@ office_page terminal report = start_top terminal ++ start_body report ++ foot
 abbrev pub start_content : StartReport → StartContent
 start_content report = record {
   visits = report.visits;
+  visits_ever = report.visits_ever;
   limit = report.limit;
   partners = partners_content report.partners;
   lists = lists_content report.calls.lists.entries;

@@ -23,7 +23,9 @@ use std::collections::BTreeMap;
 pub struct StartReport<'a> {
     /// How many visits are recorded.
     pub visits: usize,
-    /// How many may be.
+    /// How many ever were, those that were put away too.
+    pub visits_ever: u32,
+    /// How many there may ever be.
     pub limit: u32,
     /// What is expected of the partners.
     pub partners: PartnersReport<'a>,
@@ -97,7 +99,7 @@ fn push_attention(
         (string_bytes page.new ≡ string_bytes page.old ++ attention (start_content report.now)) }
 {
     if is_quiet(report) {
-        push_quiet(alloc, page, room_for(report.visits, report.limit))
+        push_quiet(alloc, page, room_for(report.visits_ever, report.limit))
     } else {
         push_attention_list(alloc, page, report)
     }
@@ -106,24 +108,24 @@ fn push_attention(
 fn is_quiet(report: &StartReport<'_>) -> bool
     ensures { result ≡ is_quiet (start_content report.now) }
 {
-    waiting_count(&report.partners.rows) == 0 && !is_nearly_full(report.visits, report.limit)
+    waiting_count(&report.partners.rows) == 0 && !is_nearly_full(report.visits_ever, report.limit)
 }
 
-/// Whether nine tenths of the visits that may be recorded are recorded.
-fn is_nearly_full(visits: usize, limit: u32) -> bool
-    ensures { result ≡ is_nearly_full visits limit }
+/// Whether nine tenths of the visits that there may ever be were recorded.
+fn is_nearly_full(visits_ever: u32, limit: u32) -> bool
+    ensures { result ≡ is_nearly_full visits_ever limit }
 {
-    u128::from(limit) * 9 <= visits as u128 * 10
+    u64::from(limit) * 9 <= u64::from(visits_ever) * 10
 }
 
 /// How many more visits may be recorded.
-fn room_for(visits: usize, limit: u32) -> u128
-    ensures { result ≡ limit - visits }
+fn room_for(visits_ever: u32, limit: u32) -> u32
+    ensures { result ≡ limit - visits_ever }
 {
-    u128::from(limit).saturating_sub(visits as u128)
+    limit.saturating_sub(visits_ever)
 }
 
-fn push_quiet(alloc: Global, page: &mut String, room: u128) -> Result<(), AllocError>
+fn push_quiet(alloc: Global, page: &mut String, room: u32) -> Result<(), AllocError>
     ensures { OnOk result (string_bytes page.new ≡ string_bytes page.old ++ quiet_line room) }
 {
     push_pieces(
@@ -131,7 +133,7 @@ fn push_quiet(alloc: Global, page: &mut String, room: u128) -> Result<(), AllocE
         page,
         &[
             Markup("<p class='fine'>Nothing waits, and there is room for "),
-            Count(room),
+            Few(room),
             Markup(" more visits.</p>\n</section>\n"),
         ],
     )
@@ -147,7 +149,7 @@ fn push_attention_list(
 {
     push_pieces(alloc, page, &[Markup("<ul class='todo'>\n")])?;
     push_missing(alloc, page, &report.partners.rows)?;
-    push_nearly_full(alloc, page, report.visits, report.limit)?;
+    push_nearly_full(alloc, page, report.visits_ever, report.limit)?;
     push_pieces(alloc, page, &[Markup("</ul>\n</section>\n")])
 }
 
@@ -210,12 +212,13 @@ fn push_missing_line(
 fn push_nearly_full(
     alloc: Global,
     page: &mut String,
-    visits: usize,
+    visits_ever: u32,
     limit: u32,
 ) -> Result<(), AllocError>
-    ensures { OnOk result (string_bytes page.new ≡ string_bytes page.old ++ nearly_full visits limit) }
+    ensures { OnOk result
+        (string_bytes page.new ≡ string_bytes page.old ++ nearly_full visits_ever limit) }
 {
-    if !is_nearly_full(visits, limit) {
+    if !is_nearly_full(visits_ever, limit) {
         return Ok(());
     }
     push_pieces(
@@ -223,10 +226,10 @@ fn push_nearly_full(
         page,
         &[
             Markup("<li><b class='s bad'>nearly full</b><span>"),
-            Many(visits),
+            Few(visits_ever),
             Markup(" of "),
             Few(limit),
-            Markup(" visits recorded: close soon, or nothing can enter</span></li>\n"),
+            Markup(" visits so far: begin a new store soon, or nothing can enter</span></li>\n"),
         ],
     )
 }

@@ -7,7 +7,7 @@ pub returns-in_ok-inside-in-Some : goal.returns-in_ok-inside-in-Some
 returns-in_ok-inside-in-Some c =
     let front = string_bytes c.args.page.now in
     let page1 = string_bytes c.push_pieces.new.page in
-    let inside = c.deref.ensures.value ∙ c.in_ok-inside.ensures in
+    let inside = c.deref.ensures.value ∙ c.in_ok-inside-in-Some.ensures in
     rw c.in-Some.is
     (on_ok_weaker c.push_table.result
     (λ e. onto front _ _ page1 (string_bytes c.push_table.new.page) c.in_ok-push_pieces.ensures
