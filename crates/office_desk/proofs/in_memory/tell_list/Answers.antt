@@ -9,8 +9,8 @@ pub returns-in_ok-show_list-in-Some : goal.returns-in_ok-show_list-in-Some
 returns-in_ok-show_list-in-Some c =
     let a = c.args in
     let call = call_content a.call.now in
-    let is : c.in_ok-list_of.field-0 ≡ Some c.in-Some.report = let f = c.in-Some.is in cc in
-    let found = subst (λ o. IsOfLines a.terminal.now call a.side (list_by call a.side) (option_map list_content o)) is c.in_ok-list_of.ensures in (
+    let is : c.in_ok-report.field-0 ≡ Some c.in-Some.report = let f = c.in-Some.is in cc in
+    let found = subst (λ o. IsOfLines a.terminal.now call a.side (list_by call a.side) (option_map list_content o)) is c.in_ok-report.ensures in (
       Some (value.list (list_content c.in-Some.report)),
       of_lines value.list a.terminal.now call a.side (list_by call a.side) (Some (list_content c.in-Some.report)) found,
       ap Some c.in_ok-show_list-in-Some.ensures,
@@ -20,6 +20,6 @@ pub returns-in-None : goal.returns-in-None
 returns-in-None c =
     let a = c.args in
     let call = call_content a.call.now in
-    let is : c.in_ok-list_of.field-0 ≡ None = let f = c.in-None.is in cc in
-    let found = subst (λ o. IsOfLines a.terminal.now call a.side (list_by call a.side) (option_map list_content o)) is c.in_ok-list_of.ensures in
+    let is : c.in_ok-report.field-0 ≡ None = let f = c.in-None.is in cc in
+    let found = subst (λ o. IsOfLines a.terminal.now call a.side (list_by call a.side) (option_map list_content o)) is c.in_ok-report.ensures in
     (None, of_lines value.list a.terminal.now call a.side (list_by call a.side) None found, refl)
