@@ -88,7 +88,7 @@ returns-in-Next-clause-told g c clean =
     let own = string_bytes c.in-Next.code in
     if_ok c.tell_next.result (λ found told. λ rows has once.
     subst (λ q. Shows (TellsAbout content a.terminal.now rows q) a.view (option_map string_bytes found)) (sym c.in-Next.is)
-    (shows_text (TellsNext rows (partner_called content own)) a.view (option_map string_bytes found) (told rows has)))
+    (shows_text (TellsNext rows (partner_called content own)) a.view (option_map string_bytes found) (rw c.deref-in-Next.ensures at (told rows has))))
     (c.tell_next.ensures.told clean)
 
 pub returns-in-Health-clause-told : goal.returns-in-Health-clause-told
@@ -116,6 +116,16 @@ returns-in-Start-clause-told g c clean =
     if_ok c.tell_start.result (λ found told. λ rows has once.
     subst (λ q. Shows (TellsAbout content a.terminal.now rows q) a.view (option_map string_bytes found)) (sym c.in-Start.is) (told rows has a.view))
     (c.tell_start.ensures.told clean)
+
+-- ---- the lists
+
+pub returns-in_ok-tell_calls-in-Calls-clause-told : goal.returns-in_ok-tell_calls-in-Calls-clause-told
+returns-in_ok-tell_calls-in-Calls-clause-told g c clean rows has once =
+    let a = c.args in
+    let content = setup_content a.setup.now in
+    let text = string_bytes c.in_ok-tell_calls-in-Calls.field-0 in
+    subst (λ q. Shows (TellsAbout content a.terminal.now rows q) a.view (Some text)) (sym c.in-Calls.is)
+    (Some (value.calls (lists_in (finite_map.entries a.terminal.now.lines))), refl, ap Some c.in_ok-tell_calls-in-Calls.ensures)
 
 -- ---- pages only
 

@@ -18,8 +18,8 @@ returns-clause-told g c clean rows has view =
     let page = c.in_ok-start_of.ensures in
     let blocks = page.0 in (
       Some (value.start content.terminal (start_by content terminal partners blocks)),
-      (partners, are, (blocks, page.1.0, refl)),
-      ap Some (page.1.1 ∙ ap (λ l. office_page content.terminal (start_by content terminal (map partner_content l) blocks)) c.deref.ensures.value),
+      (partners, are, (blocks, page.1, refl)),
+      ap Some (page.2 ∙ ap (λ l. office_page content.terminal (start_by content terminal (map partner_content l) blocks)) c.deref.ensures.value),
     )
 
 -- ---- why it can't be reported
