@@ -88,7 +88,8 @@ returns-in-Next-clause-told g c clean =
     let own = string_bytes c.in-Next.code in
     if_ok c.tell_next.result (λ found told. λ rows has once.
     subst (λ q. Shows (TellsAbout content a.terminal.now rows q) a.view (option_map string_bytes found)) (sym c.in-Next.is)
-    (shows_text (TellsNext rows (partner_called content own)) a.view (option_map string_bytes found) (rw c.deref-in-Next.ensures at (told rows has))))
+    (shows_text (TellsNext rows (partner_called content own)) a.view (option_map string_bytes found)
+    (subst (λ code. TellsNext rows (partner_called content code) (option_map string_bytes found)) c.deref-in-Next.ensures (told rows has))))
     (c.tell_next.ensures.told clean)
 
 pub returns-in-Health-clause-told : goal.returns-in-Health-clause-told
