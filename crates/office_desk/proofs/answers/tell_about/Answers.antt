@@ -118,15 +118,16 @@ returns-in-Start-clause-told g c clean =
     subst (λ q. Shows (TellsAbout content a.terminal.now rows q) a.view (option_map string_bytes found)) (sym c.in-Start.is) (told rows has a.view))
     (c.tell_start.ensures.told clean)
 
--- ---- the lists
+-- ---- in memory
 
 pub returns-in_ok-tell_calls-in-Calls-clause-told : goal.returns-in_ok-tell_calls-in-Calls-clause-told
 returns-in_ok-tell_calls-in-Calls-clause-told g c clean rows has once =
     let a = c.args in
     let content = setup_content a.setup.now in
+    let state = a.terminal.now in
     let text = string_bytes c.in_ok-tell_calls-in-Calls.field-0 in
-    subst (λ q. Shows (TellsAbout content a.terminal.now rows q) a.view (Some text)) (sym c.in-Calls.is)
-    (Some (value.calls (lists_in (finite_map.entries a.terminal.now.lines))), refl, ap Some c.in_ok-tell_calls-in-Calls.ensures)
+    subst (λ q. Shows (TellsAbout content state rows q) a.view (Some text)) (sym c.in-Calls.is)
+    (Some (value.calls (lists_in (finite_map.entries state.lines))), refl, ap Some c.in_ok-tell_calls-in-Calls.ensures)
 
 -- ---- pages only
 
