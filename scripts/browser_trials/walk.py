@@ -14,7 +14,7 @@ from model.keys import PARTS, read_key
 from model.names import check_digit, number_fault
 from model.pages import KINDS, title
 from model.reports import report
-from model.value_pages import ASKING, KINDS as OF_VALUES
+from model.value_pages import ASKING, lined
 
 from . import looks
 
@@ -104,8 +104,8 @@ class Walk:
         return asked_at(path)[0], status
 
     def reported(self, path, status, shows):
-        """A report's page is called as its title says, also by its heading. One that shows a text shows the report's; the picture is
-        drawn, and shows none."""
+        """A report's page is called as its title says, also by its heading. Of an interchange that was taken the pages of reply and
+        CONTRL show the CONTRL, a segment on each line; no other page shows a text."""
         kind, key = asked_at(path)
         if status != 200 or kind not in KINDS or kind == 'picture' or not is_page(path):
             return
@@ -113,8 +113,8 @@ class Walk:
         name = shown_as(title(kind, values[0] if len(values) == 1 else values))
         self.expect(
             (shows.title, looks.collapsed(shows.heading)) == (looks.collapsed(name),) * 2, path, 'is called', shows.title, shows.heading)
-        told = None if kind in OF_VALUES else shown_as(report(self.served.office, kind, key))
-        self.expect(shows.report == told, path, 'has another report:', shows.report)
+        contrl = report(self.served.office, 'contrl', key) if kind in ('reply', 'contrl') else None
+        self.expect(shows.report == (contrl and shown_as(lined(contrl[:-1]))), path, 'has another CONTRL:', shows.report)
 
     def leading(self, shows):
         """All links of a page, or some, if it has many: each leads to a page of the model. One may lead to a container that never
@@ -202,7 +202,7 @@ class Walk:
             if fault is None:
                 self.expect((came.status, came.text) == self.served.owed('/pages/containers/' + number), text, 'is not', number)
             elif fault == 'Form':
-                name = looks.collapsed('Find ' + text)
+                name = looks.collapsed('Find ' + shown_as(text.encode().decode('latin-1')))     # byte by byte
                 self.expect((came.status, looks.collapsed(shows.heading)) == (200, name), text, 'gives', came.status, shows.heading)
             else:
                 self.expect((came.status, shows.heading) == (404, 'Another check digit'), text, 'gives', came.status, shows.heading)

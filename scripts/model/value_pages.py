@@ -118,9 +118,7 @@ END = '''\
 ASKED_AGAIN = "<meta http-equiv='refresh' content='60'>\n"
 TABS = [('/', 'Start'), ('/pages/yard', 'Yard'), ('/pages/blocks', 'Blocks'), ('/pages/picture', 'Picture'), ('/pages/calls', 'Calls'), ('/pages/partners', 'Partners')]
 
-# the kinds of reports that have a page of this form
-KINDS = ('yard', 'visits', 'list', 'ticket', 'reply', 'contrl', 'container', 'work', 'partners', 'partner', 'blocks', 'calls')
-# those that ask again each minute, and so does the start page
+# the pages that ask again each minute
 ASKING = ('start', 'list', 'work', 'calls', 'partners')
 
 

@@ -198,7 +198,7 @@ pub(crate) fn account<W: Write, E: Write>(
     }
 }
 
-/// `report DB KIND [KEY]`: prints a report, or `none` if there is nothing to report.
+/// `report DB KIND [KEY] [--json] [--csv]`: prints a report, shown so, or `none` if there is nothing to report.
 pub(crate) fn report<W: Write, E: Write>(
     rt: &HostRuntime,
     store: &str,

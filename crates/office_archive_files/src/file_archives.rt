@@ -1,6 +1,7 @@
 ghost use Rattle.std.specs.Prelude.{◌≡◌, IfOk, List, None, Some};
 ghost use Rattle.office_archive_files.specs.Shelves.{HoldArchiveAt};
-ghost use Rattle.office_archives.specs.Shelves.{IsOpenAt};
+ghost use Rattle.office_archives.specs.Shelves.{IsOpenAt, NamesAll};
+ghost use Rattle.office_closing.specs.Register.{register_content};
 ghost use Rattle.office_parts.specs.Archives.{Archive};
 ghost use Rattle.office_tables.specs.DeliveryReading.{OnlyReads};
 ghost use Rattle.sqlite.specs.{Files.{file_state, over_files}, WalFiles.image_at};
@@ -136,13 +137,15 @@ pub struct FileArchives<'a> {
 }
 
 impl<'a> FileArchives<'a> {
-    /// Those of a shelf, as a register names them.
-    pub fn new(
-        archives: ManyArchives<FileStore<FileFrom<Unknown>>, UnknownShelf<'a>>,
-    ) -> FileArchives<'a>
-        ensures { result.archives ≡ archives.entry }
+    /// Those of a shelf, as a register names them, none of them open.
+    pub fn new(alloc: Global, shelf: UnknownShelf<'a>, register: Register) -> FileArchives<'a>
+        ensures { (list : List Archive) → HoldArchiveAt (image_at ⟦<Unknown as Start>⟧) 1 list →
+            NamesAll (register_content register) list →
+            ⟦<ManyArchives<FileStore<FileFrom<Unknown>>, UnknownShelf<'a>> as Archives>⟧.are list result.archives }
     {
-        FileArchives { archives }
+        FileArchives {
+            archives: ManyArchives::new(alloc, shelf, register),
+        }
     }
 }
 

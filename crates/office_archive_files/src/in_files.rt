@@ -110,15 +110,15 @@ impl<'a> ArchivesBeside<FileArchives<'a>> for InUnknownFiles<'a> {
 
     fn archives(&self, store: String, setup: Setup, register: Register) -> FileArchives<'a> {
         let shelf = UnknownShelf::new(StoreShelf::of(self.files.shelf(store, setup)));
-        FileArchives::new(ManyArchives::new(self.files.rt.alloc(), shelf, register))
+        FileArchives::new(self.files.rt.alloc(), shelf, register)
     }
 
     fn none(&self) -> FileArchives<'a> {
         let shelf = UnknownShelf::new(StoreShelf::empty());
-        FileArchives::new(ManyArchives::new(
+        FileArchives::new(
             self.files.rt.alloc(),
             shelf,
             no_archives(self.files.rt.alloc()),
-        ))
+        )
     }
 }

@@ -165,8 +165,8 @@ impl<'a, B: ArchiveStart> FileShelf<'a, B> {
 
     /// Whether the archive at a place, as `opened` gives it, has all its seals.
     fn is_sealed(&self, names: &Register, place: u16) -> Result<bool, TableFault>
-        ensures { IfOk result (IsSealedAt over_files (image_at B.Start) (string_bytes self.now.store)
-            (setup_content self.now.setup) (register_content names.now) place) }
+        ensures { IfOk result (IsSealedAt ⟦<FileStore<FileFrom<B>> as sqlite_trees::store::Store>⟧ (image_at B.Start)
+            (string_bytes self.now.store) (setup_content self.now.setup) (register_content names.now) place) }
     {
         let mut archive = self.opened(names, place)?;
         archive.has_seals(self.rt.alloc(), names, place)

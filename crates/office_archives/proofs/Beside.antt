@@ -19,7 +19,7 @@ use Rattle.office_parts.specs.{Archives.{Archive, archive_of}, Parts.{Archived, 
 use Rattle.office_parts.specs.{OwnLists.{ListName, list_name, list_of, rows_without_lists, without_lists}, OwnTerminal.{MayStay, own_terminal}}
 use Rattle.office_parts.proofs.{KeepingLemmas.away_done, Takings.{own_rows, visits_same}}
 use Rattle.office_archives.specs.{ListsAway.{AreLinesIfAway, TellsByLines, FindsIfAway}, Keeping.IsClosedIn, Together.{StandTogether, TellsBeside}}
-use Rattle.office_archives.specs.Telling.{AreAsked, AreEnded, IsOfExpected, IsOfList, IsOfWhatIsHere, SaysIfAway, TellsTogether, TogetherTells, IsOfContainer, IsOfNeither, IsOfNumber, TellsClosed, archives_with_lists, shown_beside, with_note}
+use Rattle.office_archives.specs.Telling.{AreAsked, AreEnded, IsOfExpected, IsOfList, IsOfWhatIsHere, SaysIfAway, TellsTogether, TogetherTells, IsOfContainer, IsOfNeither, IsOfNumber, TellsClosed, archives_with_lists, own_start, shown_beside, with_note}
 use Rattle.office_archives.proofs.{Noted.expected_end, Rising.listed_whole, Brought.kept_so, Standing.{closed_here, closed_told}}
 use Rattle.office_archives.proofs.Filled.{Entry, all_looked_up as filled_looked_up, first_in, listed_alike, filled_container, filled_list, filled_neither, filled_number, filled_visits, open_same, yard_listed}
 use Rattle.office_archives.proofs.Told.{accounts_told, container_told, list_told, nobody_told, number_told, others_told}
@@ -198,7 +198,7 @@ module _ {S A : Type 0} (g : Ghosts S) (are : List Archive → A → Type 0) (ol
       let s = stand.stands in
       let here = told_here content es stand asked told tells in
       subst (TellsTogether content es stand.list s.archived s.whole asked)
-      (ap (λ k. shown_beside k asked.view here.0) (sym (counted stand.list stand.these)) ∙ sym (same here.0 (container_asked _ _ _ asked.about here.0 is here.1) here.2))
+      (ap (λ k. shown_beside k asked.view here.0) (sym (counted stand.list stand.these)) ∙ sym (same here.0 (container_asked (content_after content es) (without_lists s.away (Mine content es stand)) (rows_without_lists s.away s.rows) asked.about here.0 is here.1) here.2))
       (container_told content es stand.list s.archived s.own s.whole s.rows s.parts s.is_own asked.about asked.view here.0 s.hold is (filled_here content es stand asked.about here.0 is here.1))
 
   -- the open lines that name a container
@@ -256,7 +256,8 @@ module _ {S A : Type 0} (g : Ghosts S) (are : List Archive → A → Type 0) (ol
         are = accounts_told content es stand.list s.archived s.own s.whole s.rows s.parts s.is_own told.0 (filled_looked_up s.away now mine s.rows 1 now.partners told.0 told.1);
         blocks = full.0;
         full = record { yard = full.1.yard; listed = listed_whole s.archived.stays state may full.1.yard (yard_listed s.away now mine s.rows full.1.yard full.1.listed); is = full.1.is };
-        told = here.2 ∙ ap (option_map (shown view)) full.2 ∙ ap Some (start_shown view _ _);
+        told = here.2 ∙ ap (option_map (shown view)) full.2 ∙ ap Some (start_shown view _ _)
+            ∙ ap (λ (newest : ℕ). Some (office_page now.terminal (record (own_start now s.archived.stays s.away state told.0 full.0) { visits_ever = newest }))) may.newest;
       }
   here_told content es stand other view found is here = absurd is
 
@@ -276,7 +277,7 @@ module _ {S A : Type 0} (g : Ghosts S) (are : List Archive → A → Type 0) (ol
         were_put_away = λ list e. ap is_some (s.lists.kept list e).are;
         put_away = put.0;
         says = put.1;
-        told = same here.0 (calls_asked _ _ _ about.Calls here.0 refl here.1) here.2 ∙ ap (λ k. shown_beside k view here.0) put.2 ∙ ap (shown_beside (archives_with_lists stand.list put.0) view) here.1;
+        told = same here.0 (calls_asked (content_after content es) (without_lists s.away (Mine content es stand)) (rows_without_lists s.away s.rows) about.Calls here.0 refl here.1) here.2 ∙ ap (λ k. shown_beside k view here.0) put.2 ∙ ap (shown_beside (archives_with_lists stand.list put.0) view) here.1;
       }
 
   -- a list that is not away, by a desk that was looked at

@@ -15,7 +15,7 @@ use Rattle.office_history.specs.After.{content_after, machine_after}
 use Rattle.office_desk.specs.Reports.{AreLookedUp, Shows, TellsAfter, partner_called, partner_if_called}
 use Rattle.office_parts.specs.{Archives.Archive, Parts.Archived, Away.lines_away, OwnLists.{ListName, own_lines}, OwnTerminal.own_visits}
 use Rattle.edi_messages.specs.{Owned.call_content, Purposes.CallContent}
-use Rattle.terminal_core.specs.{declared.lines.Side.Side, State.{Lines, TerminalState}}
+use Rattle.terminal_core.specs.{declared.lines.Side.Side, State.{Lines, TerminalState, last_number}}
 use Rattle.office_archives.specs.{Closed.{closed_contrl, closed_reply}, Copies.{AreCopies, GoByNumbers}, Counted.TellsOwnMetrics, Shelves.archive_at}
 use Rattle.office_archives.specs.Stayed.{GoOldestFirst, TellsWhatStays, container_if_there}
 use Rattle.office_archives.specs.Keeping.{IsClosedBefore, IsNotClosedBefore, IsReportIn, IsTicketIn, IsValueOf}
@@ -120,11 +120,12 @@ pub record TellsOwnFound (now : SetupContent) (archives : List Archive) (stays :
       ≡ Some (found_page typed (own_visits stays state.visits) (partner_if_called now typed)
       (lists_in (finite_map.entries (own_lines away state.lines))))
 
--- what the start page tells, with those of the visits that stay, and of lists those that are not away
+-- what the start page tells, with those of the visits that stay and how many ever were, and of lists those that are not away
 abbrev pub own_start : SetupContent → (stays : ℕ → Bool) → (away : ListName → Bool) → TerminalState →
     List PartnerContent → BlocksContent → StartContent
 own_start now stays away state partners blocks = record {
   visits = length (own_visits stays state.visits);
+  visits_ever = last_number state.visits;
   limit = now.visit_limit;
   partners = partners_of partners;
   lists = lists_in (finite_map.entries (own_lines away state.lines));

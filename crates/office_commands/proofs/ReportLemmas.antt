@@ -1,5 +1,5 @@
 -- What a desk tells, by a set-up that only says the same, and by the tables that the files held.
-use Rattle.std.specs.Prelude.{length, string_bytes}
+use Rattle.std.specs.Prelude.{string_bytes}
 use Rattle.std.proofs.Common.{◌≡◌, inl, inr, ℕ, List, Option, Some, option_map, ap, sym, subst, ◌∙◌}
 use Rattle.sqlite.specs.{Effect.Database, Held.state, Tree.Trees}
 use Rattle.sqlite_trees.specs.declared.store.Store.{Ghosts}
@@ -10,9 +10,9 @@ use Rattle.office_rows.specs.{Opening.tables_version, Rows.Rows, Stored.HasRows}
 use Rattle.office_loading.{specs.{Closed.{closed_content, nothing_closed}, Tables.{Loads, LoadsOwn}}, proofs.Offices.whole_office}
 use Rattle.office_history.{specs.After.{SaysSame, content_after}, proofs.Alike.parties_same}
 use Rattle.office_reports.specs.{Program.program_version, declared.query.About.About, declared.query.Query.Query, declared.query.ReportKind.ReportKind}
-use Rattle.office_reports.specs.{declared.query.View.View, Visits.visits_of, Calls.lists_in, Partners.partners_of, Metrics.metrics_text, Picture.IsPicture}
+use Rattle.office_reports.specs.{declared.query.View.View, Visits.visits_of, Calls.lists_in, Metrics.metrics_text, Picture.IsPicture}
 use Rattle.office_report_data.specs.Told.{ReportContent, shown}
-use Rattle.office_desk.specs.Reports.{AreLookedUp, FindsAfter, TellsAbout, TellsAfter, TellsNext, TellsPartner, TellsPartners, TellsReplyOf, DeskTells, container_told, contrl_for_partner, ticket_of, partner_called}
+use Rattle.office_desk.specs.Reports.{AreLookedUp, FindsAfter, TellsAbout, TellsAfter, TellsNext, TellsPartner, TellsPartners, TellsReplyOf, DeskTells, container_told, contrl_for_partner, start_by, ticket_of, partner_called}
 use Rattle.office_desk.{specs.declared.desk.Desk.Desk, proofs.OwnNumbers.answers_alike}
 use Rattle.office_commands.{specs.{Opening.OpensOver, Reporting.{TellsKey, TellsOver, in_lines, report_text, report_status}}, proofs.Alike.now_alike}
 use Rattle.std.specs.FinMap as finite_map
@@ -71,7 +71,7 @@ module _ (one other : SetupContent) (says : SaysSame one other) where
     (
       told.2.0,
       told.2.1,
-      told.2.2 ∙ (λ i. Some (value.start (says.terminal i) (record { visits = length state.visits; limit = says.limit i; partners = partners_of told.0; lists = lists_in (finite_map.entries state.lines); blocks = told.2.0 }))),
+      told.2.2 ∙ (λ i. Some (value.start (says.terminal i) (start_by (record { terminal = one.terminal; codes = one.codes; partners = one.partners; blocks = one.blocks; visit_limit = says.limit i }) state told.0 told.2.0))),
     ),
   )
   of_alike state rows (about.Expected container) what told = told

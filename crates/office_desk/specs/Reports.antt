@@ -5,7 +5,7 @@ use Rattle.sqlite.specs.{Held.state, State.State}
 use Rattle.sqlite_trees.specs.declared.store.Store.{Ghosts}
 use Rattle.box6346.specs.declared.box_number.BoxNumber.{BoxNumber}
 use Rattle.edi_messages.specs.{declared.codes.PartnerKind.PartnerKind, Owned.call_content}
-use Rattle.terminal_core.specs.{Rows.VisitContent, State.TerminalState}
+use Rattle.terminal_core.specs.{Rows.VisitContent, State.{TerminalState, last_number}}
 use Rattle.office_replies.specs.Events.{Event}
 use Rattle.office_rows.specs.{Opening.tables_version, Rows.Rows}
 use Rattle.office_admission.specs.{Parties.partner_from, Setups.{SetupContent, setup_content}}
@@ -134,6 +134,7 @@ TellsMetrics content state rows found =
 abbrev pub start_by : SetupContent → TerminalState → List PartnerContent → BlocksContent → StartContent
 start_by content state partners blocks = record {
   visits = length state.visits;
+  visits_ever = last_number state.visits;
   limit = content.visit_limit;
   partners = partners_of partners;
   lists = lists_in (finite_map.entries state.lines);

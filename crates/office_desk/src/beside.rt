@@ -21,7 +21,7 @@ use office_reports::{
 use office_tables::{TableFault, next_of};
 use sqlite::{Alter, Connection};
 use std::alloc::{AllocError, Global};
-use terminal_core::Terminal;
+use terminal_core::{Terminal, newest_number};
 
 /// What is kept in memory beside the tables, so that a delivery reads no more of them than the interchanges that it
 /// needs.
@@ -176,8 +176,10 @@ fn start_of(
         × (string_bytes page ≡ office_page (setup_content setup.now).terminal
         (start_by (setup_content setup.now) terminal.now (map partner_content partners.now) blocks))) }
 {
+    let visits = terminal.visits();
     let report = StartReport {
-        visits: terminal.visits().len(),
+        visits: visits.len(),
+        visits_ever: newest_number(visits),
         limit: setup.visit_limit,
         partners: partners_of(alloc, partners)?,
         calls: calls_of(alloc, terminal)?,

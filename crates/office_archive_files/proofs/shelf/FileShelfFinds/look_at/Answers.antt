@@ -13,7 +13,7 @@ returns-then-is_sealed g c =
     subst (IsSealedAt over_files (image_at g.B.Start) (string_bytes self.store) (setup_content self.setup) (register_content c.args.names.now) c.args.place) c.if-is_sealed.true c.in-Ok.ensures
 
 -- It has not passed.
-pub returns-in-Err : goal.returns-in-Err
-returns-in-Err g c =
+pub returns : goal.returns
+returns g c =
     let self = c.args.self.now in
     if_ok c.as_other.result (λ found other. subst (IsFoundAt over_files (image_at g.B.Start) (string_bytes self.store) (setup_content self.setup) (register_content c.args.names.now) c.args.place) (sym other.0) tt) c.as_other.ensures.other
