@@ -1,8 +1,8 @@
 -- The report on an interchange as JSON: an object with each member always, null where there is nothing.
 use Rattle.std.specs.Prelude.{ℕ, ◌+◌, Bool, false, List, [], ◌∷◌, codes, encode_utf8_all, slice_get, Option, None, Some, Result, Ok, Err}
-use Rattle.box6346.specs.declared.size_type.SizeType.{SizeType}
-use Rattle.edi_syntax.specs.Moments.{moment_text}
-use Rattle.edi_messages.specs.{Message.{LineContent, MessageContent}, Purposes.CallContent}
+use Rattle.box6346.specs.{declared.size_type.SizeType.SizeType, declared.slot.Slot.Slot}
+use Rattle.edi_syntax.specs.Moments.{CivilMoment, moment_text}
+use Rattle.edi_messages.specs.{Message.{LineContent, MessageContent}, Purposes.CallContent, declared.line.LineFault.LineFault}
 use Rattle.edi_messages.specs.declared.message.MessageFault.{MessageFault}
 use Rattle.office_replies.specs.Names.{message_fault_name}
 use Rattle.serde_json.specs.{Data.{Data, array, boolean, null, string, number, unsigned, object, member, no_members, put, Members}, View.items_of}
