@@ -430,14 +430,14 @@ def is_allowed(line, wanted):
 
 
 def are_allowed(office, place, stood, is_sealed, got):
-    """Whether texts may be printed so where the archive of a place is spoiled: all; or the first and then that it can't be asked.
-    Where SQLite reads other bytes there, that holds of the texts before that archive; under a number that it closed, there are
+    """Whether texts may be printed so where the archive of a place is spoiled: all; or the first and then that it can't be asked, or
+    is damaged. Where SQLite reads other bytes there, that holds of the texts before that archive; under a number that it closed, there are
     no others."""
     printed, told, ended = got
     office.lost = {} if stood else {place: 'OTHER'}
     kept = text_of(kept_texts(office.deliveries)) if stood else texts_before_lost(office)[-1]
     office.lost = {}
-    if (told, ended) == ('store: Store\n', 3):
+    if ended == 3 and told in ('store: Store\n', 'store: Damaged\n'):
         return kept.startswith(printed) or not stood and is_sealed and printed.startswith(kept)
     return (told, ended) == ('', 0) and is_sealed and (printed == kept if stood else printed.startswith(kept))
 

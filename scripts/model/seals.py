@@ -25,8 +25,6 @@ CHANGES = [
     "UPDATE interchange SET body = CAST(substr(body, 1, length(body) - 1) AS BLOB) WHERE partner = %d AND number = %d",
     "UPDATE interchange SET reply = reply || ' ' WHERE partner = %d AND number = %d",
     "UPDATE interchange SET reply = replace(reply, 'TERM1', 'TERM2') WHERE partner = %d AND number = %d"]
-# what takes one away
-GONE = 'DELETE FROM interchange WHERE partner = %d AND number = %d'
 # numbers that are changed: at the ends of what has a seal together, and within it; by the account's code
 CHANGED = [
     ('HAULA', 1), ('HAULA', 50), ('HAULA', 51), ('HAULA', 77), ('HAULA', 100), ('HAULA', 101), ('HAULA', 102), ('HAULA', 151),
@@ -91,15 +89,17 @@ def asked(room, what, office):
 
 
 def try_changed(room):
-    """One text or reply of an archive is another, or is gone: the numbers that have a seal with it are not now, all others are
+    """One text or reply of an archive is another: the numbers that have a seal with it are not now, all others are
     answered as ever."""
     office = make_closed(room)
     asked(room, 'sealed', office)
     for place, pair in enumerate(CHANGED):
+        change = (CHANGES + [None])[place % (len(CHANGES) + 1)]    # one of five stays
+        if change is None:
+            continue
         names = 'office.db', 'archive-%d.db' % office.archive_of(*pair)
         for name in names:
             copy_files(room.path(name), room.path('kept-' + name))
-        change = (CHANGES + [GONE])[place % (len(CHANGES) + 1)]
         edit(room.path(names[1]), change % (identities(office.setup)[pair[0]], pair[1]))
         is_changed(office, *pair)
         asked(room, 'sealed, %s of %s/%d' % (change.split(' WHERE')[0], *pair), office)
