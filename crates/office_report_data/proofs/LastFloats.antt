@@ -1,11 +1,11 @@
 -- What came, and what came last, have no float.
-use Rattle.std.proofs.Common.{◌≡◌, ℕ, ◌+◌, List, [], ◌∷◌, Bool, false, Ok, Err, None, Some, Option, Result, map, slice_get, refl}
-use Rattle.serde_json.specs.{Data.string, View.items_of, Written.{has_float, items_have_float}}
+use Rattle.std.proofs.Common.{◌≡◌, ℕ, ◌+◌, List, [], ◌∷◌, Bool, true, false, Ok, Err, None, Some, Option, Result, map, slice_get, refl}
+use Rattle.serde_json.specs.{Data.{Data, string}, View.items_of, Written.{has_float, items_have_float}}
 use Rattle.box6346.specs.declared.size_type.SizeType.{SizeType}
 use Rattle.edi_messages.specs.{Message.{LineContent, MessageContent}, declared.message.MessageFault.MessageFault}
 use Rattle.office_reports.specs.{Interchanges.{FactsContent, InterchangeContent, MessageRowContent, OutcomeContent, facts_of}, Last.{LastRowContent, SettledContent}}
 use Rattle.office_report_data.specs.Interchanges.{call_data, interchange_data, line_data, line_object, lines_data, load_data, message_data, outcome_data, read_data}
-use Rattle.office_report_data.specs.Last.{kind_data, last_row_data, settled_data}
+use Rattle.office_report_data.specs.{Last.{kind_data, last_row_data, settled_data}, Words.or_null}
 use Rattle.office_report_data.proofs.FloatLemmas.{number_has_none, option_has_none, text_has_none}
 
 -- ---- what came last
