@@ -8,10 +8,10 @@ noted count page text None ended same makes = cc
 noted count page text (Some other) ended same makes =
     ap Some (makes ended.0 (same_Some page other same ∙ ended.1) ∙ sym (note_before_end count ended.0) ∙ ap (with_note count) (sym ended.1))
 
-pub returns-in_ok-with_archives_note-in-Some : goal.returns-in_ok-with_archives_note-in-Some
-returns-in_ok-with_archives_note-in-Some c what ended same =
-    noted c.args.count (string_bytes c.in-Some.page) (string_bytes c.in_ok-with_archives_note-in-Some.field-0) what ended (ap (option_map string_bytes) (sym c.in-Some.is) ∙ same)
-    (λ body is. c.in_ok-with_archives_note-in-Some.ensures body (c.as_str.ensures.value ∙ is))
+pub returns-in_ok-with_archives-in-Some : goal.returns-in_ok-with_archives-in-Some
+returns-in_ok-with_archives-in-Some c what ended same =
+    noted c.args.count (string_bytes c.in-Some.page) (string_bytes c.in_ok-with_archives-in-Some.field-0) what ended (ap (option_map string_bytes) (sym c.in-Some.is) ∙ same)
+    (λ body is. c.in_ok-with_archives-in-Some.ensures body (c.as_str.ensures.value ∙ is))
 
 pub returns-in-None : goal.returns-in-None
 returns-in-None c what ended same = ap (option_map (with_note c.args.count)) (ap (option_map string_bytes) (sym c.in-None.is) ∙ same)
