@@ -23,7 +23,7 @@ use Rattle.office_reports.specs.Tickets.{is_closed_by, is_source, is_opened_by, 
 use Rattle.office_reports.{specs.{declared.query.View.View, declared.query.View.TheVariants.{Text, Json, Csv, Page}, Names.line}, proofs.Standings.ticket_stays}
 use Rattle.office_pages.specs.{Fixed.foot, Tables.{section_head, table_of}, Tickets.{closed_columns, closed_row, opened_columns, opened_row, ticket_page, ticket_top}}
 use Rattle.office_report_data.specs.{Tickets.{closed_data, opened_data, ticket_data}, Told.shown}
-use Rattle.serde_json.specs.{Data.{array, member, no_members, number, object, string, unsigned}, View.items_of, Written.compact_text}
+use Rattle.serde_json.specs.{Data.{array, member, no_members, number as json_number, object, string, unsigned}, View.items_of, Written.compact_text}
 use Rattle.office_archives.specs.{Visits.{departure_by, visit_by, visits_by, IsWithin, HasLeftWithin, IsVisitWithin}, Stayed.GoOldestFirst}
 use Rattle.office_archives.specs.Laws.{ClosingsGoOldestFirst, NothingWentAtFirst}
 use Rattle.office_parts.{specs.OwnTerminal.{own_visits, is_own}, proofs.Splits.{Has, contained_has, has_contained, has_filtered}}
@@ -318,7 +318,7 @@ module _ (mine : Source) where
 
   data_same : (code : List ℕ) (visits : List VisitContent) → ticket_data (ticket_of code mine visits) ≡ ticket_data (ticket_of code mine (visits_by mine visits))
   data_same code visits i =
-      object (member (codes "closed") (array (items_of (closed_same closed_data visits i))) (member (codes "number") (number (unsigned mine.number))
+      object (member (codes "closed") (array (items_of (closed_same closed_data visits i))) (member (codes "number") (json_number (unsigned mine.number))
       (member (codes "opened") (array (items_of (opened_same opened_data (λ v. refl) visits i))) (member (codes "partner") (string code) no_members))))
 
   -- its page has as many rows, and they are the same

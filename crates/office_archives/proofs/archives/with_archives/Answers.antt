@@ -51,8 +51,8 @@ returns-in-Text c =
 
 pub returns-in-Json : goal.returns-in-Json
 returns-in-Json c =
-    if_ok c.with_member.result (λ found makes what asks shows. member_beside c.args.view c.args.count (option_map string_bytes c.args.told) (option_map string_bytes found) what c.in-Json.is asks shows makes)
-    c.with_member.ensures
+    if_ok c.with_archives.result (λ found makes what asks shows. member_beside c.args.view c.args.count (option_map string_bytes c.args.told) (option_map string_bytes found) what c.in-Json.is asks shows makes)
+    c.with_archives.ensures
 
 pub returns-in-Csv : goal.returns-in-Csv
 returns-in-Csv c what asks shows = table_beside c.args.view c.args.count (option_map string_bytes c.args.told) what c.in-Csv.is shows
