@@ -124,8 +124,8 @@ module _ {S A : Type 0} (g : Ghosts S) (are : List Archive → A → Type 0) (ol
   nothing_beside Csv told what asks is = is
   nothing_beside Page told what asks is = is ∙ sym (no_note (option_map (shown Page) what) (asked_end what asks))
   nothing_beside Json told None asks is = is
-  nothing_beside Json told (Some (value.container report lists visits)) asks is = is
-  nothing_beside Json told (Some (value.visits report)) asks is = is
+  nothing_beside Json told (Some (value.container its lists visits)) asks is = is
+  nothing_beside Json told (Some (value.visits its)) asks is = is
   nothing_beside Json told (Some (value.calls lists)) asks is = is
   nothing_beside Json told (Some other) asks is = absurd asks
 
