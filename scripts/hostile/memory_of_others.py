@@ -222,8 +222,17 @@ def refuse_routes(refusing, before, text, steps, counted):
         refusing.copy_from(start)
 
 
+def answer_to(server, request):
+    """What a server answers to a request; nothing, if it closes the connection without an answer."""
+    try:
+        return exchanged(server.port, request)
+    except OSError:
+        return ''
+
+
 def serve(refusing, before, requests, refused, counted, name):
-    """A server that is sent these requests: how many allocations it made."""
+    """A server that is sent these requests: how many allocations it made. It may close one connection for which it had no memory,
+    with nothing done."""
     office, server = deepcopy(before), Server(refusing, len(requests), refused)
     what = '%s, allocation %d' % (name, refused)
     if not server.line:
@@ -231,10 +240,14 @@ def serve(refusing, before, requests, refused, counted, name):
             raise Different(what + ', not opened')
         counted[name + ': told that memory ran out'] += 1
         return refusing.allocations()
+    closed = 0
     for request in requests:
-        given = exchanged(server.port, request)
+        given = answer_to(server, request)
         if given == NOT_NOW:
             counted[name + ': not now'] += 1
+        elif not given and refused and not closed:
+            closed = 1
+            counted[name + ': closed'] += 1
         else:
             expect(what, response(office, request), given)
             counted[name + ': answered'] += 1
