@@ -13,7 +13,7 @@ use Rattle.office_history.{specs.After.{SaysSame, content_after}, proofs.Alike.p
 use Rattle.office_reports.specs.{Program.program_version, declared.query.About.About, declared.query.Query.Query, declared.query.ReportKind.ReportKind}
 use Rattle.office_reports.specs.{declared.query.View.View, Visits.{visits_by, visits_of}, Calls.lists_in, Metrics.metrics_text, OpenLines.open_lines, Picture.IsPicture}
 use Rattle.office_reports.specs.Containers.{ContainerContent, container_of}
-use Rattle.office_report_data.specs.Told.{ReportContent, shown}
+use Rattle.office_report_data.specs.{Told.{ReportContent, shown}, Visits.{visit_data, visit_fields}}
 use Rattle.office_desk.specs.Reports.{AreLookedUp, AreShownAlike, FindsAfter, TellsAbout, TellsAfter, TellsNext, TellsPartner, TellsPartners, TellsReplyOf, DeskTells, container_by, container_told, contrl_for_partner, start_by, ticket_of, partner_called}
 use Rattle.office_desk.{specs.declared.desk.Desk.Desk, proofs.OwnNumbers.answers_alike}
 use Rattle.office_commands.{specs.{Opening.OpensOver, Reporting.{TellsKey, TellsOver, in_lines, report_text, report_status}}, proofs.Alike.now_alike}
@@ -35,7 +35,7 @@ module _ (one other : SetupContent) (says : SaysSame one other) where
 
   -- visits are shown with the partners' codes, of which both set-ups have the same
   visits_shown : (view : View) (container : BoxNumber) (visits : List VisitContent) → option_map (shown view) (option_map value.visits (visits_by one container visits)) ≡ option_map (shown view) (option_map value.visits (visits_by other container visits))
-  unfolding shown
+  unfolding shown visit_data visit_fields
   visits_shown view container [] = refl
   visits_shown view container (visit ∷ visits) =
       λ i. Some (shown view (value.visits (record {
