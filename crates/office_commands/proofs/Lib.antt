@@ -3,6 +3,7 @@ mod Leaving
 mod OpenedLemmas
 mod StreamLemmas
 mod Alike
+mod ShownAlike
 mod ReportLemmas
 mod DeliverLemmas
 mod AccountLemmas
