@@ -3,7 +3,6 @@ mod Leaving
 mod OpenedLemmas
 mod StreamLemmas
 mod Alike
-mod ShownAlike
 mod ReportLemmas
 mod DeliverLemmas
 mod AccountLemmas
