@@ -19,7 +19,7 @@ TURNS, TIMED = 5, 20        # of which the least counts; requests that are timed
 SIZE = 1024                 # bytes of a page of a new store
 BOX = streams.box(5000)
 SHOWN = [                   # a page, and the report beside it
-    ('/pages/yard', '/yard'), ('/pages/containers/' + BOX, '/containers/' + BOX), ('/', '/containers/' + BOX),
+    ('/pages/yard', '/yard'), ('/pages/containers/' + BOX, '/containers/' + BOX), ('/', '/blocks'),
     ('/pages/blocks', '/blocks')]
 
 

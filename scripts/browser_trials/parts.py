@@ -12,8 +12,8 @@ from .walk import LISTED, Walk
 
 # views of pages of the day: where, and how large
 VIEWS = {
-    'page_start.png': ('/', 1000, 420), 'page_container.png': ('/pages/containers/ABCU6488207', 1000, 500),
-    'page_list.png': ('/pages/lists/9123456/V12/load', 1000, 480), 'page_reply_phone.png': ('/pages/replies/HAULA/1', 360, 900)}
+    'page_start.png': ('/', 1000, 760), 'page_container.png': ('/pages/containers/ABCU6488207', 1000, 660),
+    'page_list.png': ('/pages/lists/9123456/V12/load', 1000, 460), 'page_reply_phone.png': ('/pages/replies/HAULB/3', 360, 820)}
 MOST_BYTES = 400000         # of all of docs/pictures
 # which of the day's pages ask again by themselves, and what is delivered meanwhile
 AGAIN = [('/pages/lists/9123456/V12/load', LISTED % (3, 'ABCU0000017', 3)), ('/pages/work/9123456/V12/load', LISTED % (4, 'ABCU0000022', 4))]

@@ -14,6 +14,7 @@ from model.keys import PARTS, read_key
 from model.names import check_digit, number_fault
 from model.pages import KINDS, title
 from model.reports import report
+from model.value_pages import ASKING, lined
 
 from . import looks
 
@@ -35,12 +36,14 @@ def path_of(address):
 
 
 def asked_at(path):
-    """What a page shows: the kind of report and its key; or `start`, `find`, `picture`, with none."""
+    """What a page shows: the kind of report and its key; or `start`, `find`, `block`, `picture`, with none."""
     address = path.partition('?')[0]
     if address == '/':
         return 'start', ''
     if address == PAGES + '/find':
         return 'find', ''
+    if address.startswith(PAGES + '/yard/'):
+        return 'block', ''
     found = route_at(address[len(PAGES):] if address.startswith(PAGES) else address)
     return (found[1], found[2]) if found else ('nothing', '')
 
@@ -83,6 +86,8 @@ class Walk:
         status, text = self.served.owed(path)
         self.expect((came.status, came.text) == (status, text), path, 'is not the model\'s:', came.status, came.text[-300:])
         self.pages.add(path)
+        if asked_at(path)[0] in ASKING and path not in self.again:
+            self.again.append(path)
         self.opened += [] if urlsplit(came.address).fragment and path in self.opened[-1:] else [path]
         shows = looks.held(self.chromium)
         self.expect(shows == looks.Reader(text).held(), path, 'shows something else')
@@ -99,29 +104,28 @@ class Walk:
         return asked_at(path)[0], status
 
     def reported(self, path, status, shows):
-        """Title and text of a report's page are the report's, with a container's visits below it. The picture is drawn, and shows
-        no text of a report."""
+        """A report's page is called as its title says, also by its heading. Of an interchange that was taken the pages of reply and
+        CONTRL show the CONTRL, a segment on each line; no other page shows a text."""
         kind, key = asked_at(path)
         if status != 200 or kind not in KINDS or kind == 'picture' or not is_page(path):
             return
         values = read_key(kind, key) if PARTS[kind] else [None]
         name = shown_as(title(kind, values[0] if len(values) == 1 else values))
         self.expect(
-            (shows.title, shows.heading) == (looks.collapsed(name), name), path, 'is called', shows.title, shows.heading)
-        kinds = [kind, 'visits'] if kind == 'container' else [kind]
-        told = ''.join(report(self.served.office, each, key) for each in kinds)
-        self.expect(shows.report == shown_as(told), path, 'has another report:', shows.report)
+            (shows.title, looks.collapsed(shows.heading)) == (looks.collapsed(name),) * 2, path, 'is called', shows.title, shows.heading)
+        contrl = report(self.served.office, 'contrl', key) if kind in ('reply', 'contrl') else None
+        self.expect(shows.report == (contrl and shown_as(lined(contrl[:-1]))), path, 'has another CONTRL:', shows.report)
 
     def leading(self, shows):
         """All links of a page, or some, if it has many: each leads to a page of the model. One may lead to a container that never
-        came, or to the work of a list whose name has a space."""
+        came."""
         places = range(len(shows.links))
         for place in places if len(places) <= LINKS else sorted(self.chance.sample(places, LINKS)):
             address, words = shows.links[place]
             kind, status = kind_at(address), self.served.owed(path_of(address))[0]
             self.links[kind] += 1
             self.lost += status == 404
-            self.expect(status == 200 or status == 404 and kind in ('container', 'work'), address, 'leads nowhere')
+            self.expect(status == 200 or status == 404 and kind == 'container', address, 'leads nowhere')
             self.expect(words.strip(), address, 'has no words')
             if kind == 'container' and number_fault(words) is None:
                 self.expect(address == '/pages/containers/' + words, words, 'leads to', address)
@@ -185,8 +189,8 @@ class Walk:
         return self.chromium.moved(send)
 
     def typed(self):
-        """What persons type, and what else may stand in a field: the page is that of the container that is meant, or says what is
-        wrong."""
+        """What persons type, and what else may stand in a field: the page is that of the container that is meant, of what the text
+        finds, or says what is wrong."""
         for place, text in enumerate(typed_texts(self.served.office)):
             came = self.type_in(text, place % 2 == 0)
             if came is None:
@@ -197,9 +201,11 @@ class Walk:
             fault = number_fault(number)
             if fault is None:
                 self.expect((came.status, came.text) == self.served.owed('/pages/containers/' + number), text, 'is not', number)
+            elif fault == 'Form':
+                name = looks.collapsed('Find ' + shown_as(text.encode().decode('latin-1')))     # byte by byte
+                self.expect((came.status, looks.collapsed(shows.heading)) == (200, name), text, 'gives', came.status, shows.heading)
             else:
-                name = 'No container number' if fault == 'Form' else 'Another check digit'
-                self.expect((came.status, shows.heading) == (404, name), text, 'gives', came.status, shows.heading)
+                self.expect((came.status, shows.heading) == (404, 'Another check digit'), text, 'gives', came.status, shows.heading)
             if fault not in (None, 'Form'):
                 right = number[:10] + str(check_digit(number[:10]))
                 self.click(shows.links.index(('/pages/containers/' + right, right)), '/pages/containers/' + right)

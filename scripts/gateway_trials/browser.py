@@ -29,10 +29,10 @@ def shown(machine, address):
 
 def looked(checks, second):
     """What the person may see and may not, once the authority is known."""
-    checks.expect('an authority that the browser does not know', False, '<h1>Office of' in shown(second, GATEWAY + '/'))
+    checks.expect('an authority that the browser does not know', False, '<small>Office of</small>' in shown(second, GATEWAY + '/'))
     second.sure(TRUSTED)
     for path, heading in (
-            ('/', 'Office of TERM1'), ('/pages/partners', 'Partners'), ('/pages/replies/HAULA/1', 'Not for your role')):
+            ('/', '<small>Office of</small> TERM1'), ('/pages/partners', 'Partners'), ('/pages/replies/HAULA/1', 'Not for your role')):
         checks.expect('a planner opens ' + path, True, '<h1>%s</h1>' % heading in shown(second, GATEWAY + path))
 
 

@@ -28,14 +28,16 @@ REPORTS = [
     ('/work/91%2F23/V12/load', 'work', '91%2F23/V12/load', OTHERS),
     ('/tickets/HAULA/1', 'ticket', 'HAULA/1', ['gate', 'edi']), ('/replies/HAULA/1', 'reply', 'HAULA/1', ['edi']),
     ('/contrls/HAULA/1', 'contrl', 'HAULA/1', ['edi']), ('/partners', 'partners', '', OTHERS)]
+# whoever may have a report may ask for its JSON and its CSV; of some there is none
+DATA = [(front + path, allowed) for path, kind, _key, allowed in REPORTS if kind != 'yardcsv' for front in ('/json', '/csv')]
 # whoever may have a report may see its page, where it has one; and these besides
 PAGES = [('/pages' + path, allowed) for path, kind, _key, allowed in REPORTS if kind in PAGED] + [
     (path, ROLES) for path in (
         '/', '/pages/find', '/pages/find?', '/pages/find?container=abcu+000001-7', '/pages/find?container=%41BCU0000017',
         '/pages/find?container=ABCU0000018', '/pages/find?container=%3Cb%3E', '/pages/find?container=ABCU0000022&x=/partners',
         '/pages/find?x=ABCU0000017', '/pages/find?/../../partners', '/pages/containers/..', '/pages/visits/ABCU0000022')] + [
-    ('/pages/partners/HAULA', OTHERS), ('/pages/partners/NOBODY', OTHERS), ('/pages/tickets/HAULA/2', ['gate', 'edi']),
-    ("/pages/replies/HAULA'%3Cb%3E/1", ['edi']), ('/pages/replies/HAULA/x', ['edi'])]
+    ('/pages/yard/A', ROLES), ('/pages/partners/HAULA', OTHERS), ('/pages/partners/NOBODY', OTHERS),
+    ('/pages/tickets/HAULA/2', ['gate', 'edi']), ("/pages/replies/HAULA'%3Cb%3E/1", ['edi']), ('/pages/replies/HAULA/x', ['edi'])]
 LOAD_LIST = (
     "UNB+UNOA:3+LINEA+TERM1+240305:0910+1'UNH+1+COPRAR:D:95B:UN'BGM+45+L1+9'TDT+20+V12++++++91/23'"
     "EQD+CN+ABCU0000017+22G1:102:5+++5'LOC+11+NLRTM'UNT+6+1'UNZ+1+1'")
@@ -51,6 +53,9 @@ NOBODYS = [
     ('GET', '/pages/pages/yard'), ('GET', '/PAGES/yard'), ('GET', '/pages/../partners'), ('GET', '/pages/find/'),
     ('GET', '/pages/find/x?container=ABCU0000017'), ('GET', '/pages/finder'), ('POST', '/pages/find'), ('POST', '/pages/yard'),
     ('POST', '/pages/partners/HAULC/gate'),
+    ('GET', '/json'), ('GET', '/json/'), ('GET', '/json/health'), ('GET', '/json/yard.csv'), ('GET', '/csv/metrics'),
+    ('GET', '/json/csv/yard'), ('GET', '/json/pages/yard'), ('GET', '/pages/json/yard'), ('GET', '/json/archives/1/yard'),
+    ('POST', '/json/yard'), ('POST', '/csv/partners/HAULC/gate'), ('GET', '/pages/yard/a'), ('GET', '/pages/yard/AB'),
     ('GET', '/archives/1/texts/0'), ('GET', '/archives/0/yard'), ('GET', '/archives/10000/yard'), ('GET', '/archives/x/yard'),
     ('GET', '/archives/1/archives/1/yard'), ('GET', '/archives/1/pages/yard'), ('GET', '/pages/archives/1/yard'),
     ('GET', '/archives/1/'), ('GET', '/archives/1'), ('POST', '/archives/1/partners/HAULC/gate')]
@@ -72,6 +77,10 @@ def reports(clients, judge):
     for path, kind, key, allowed in REPORTS:
         for role in ROLES:
             wanted = judge.report(kind, key) if role in allowed else ROLE
+            judge.same('%s: GET %s' % (role, path), wanted, clients.get(role, path, port))
+    for path, allowed in DATA:
+        for role in ROLES:
+            wanted = judge.answered(path) if role in allowed else ROLE
             judge.same('%s: GET %s' % (role, path), wanted, clients.get(role, path, port))
     for role in ROLES:
         wanted = judge.standing('HAULA') if role in OTHERS else ROLE
@@ -167,7 +176,9 @@ def archives(clients, judge):
     done = subprocess.run([office.program, 'close', office.store, copy], capture_output=True, encoding='utf-8', check=False)
     judge.checks.expect('history put away', ('ready\n', 0), (done.stdout, done.returncode))
     office.start()
-    for path, _kind, _key, allowed in REPORTS + [('/metrics', '', '', ROLES), ('/partners/HAULA', '', '', OTHERS)]:
+    more = [('/metrics', '', '', ROLES), ('/partners/HAULA', '', '', OTHERS), ('/json/yard', '', '', ROLES),
+            ('/csv/calls', '', '', OTHERS), ('/json/replies/HAULA/1', '', '', ['edi'])]
+    for path, _kind, _key, allowed in REPORTS + more:
         path = '/archives/1' + path
         wanted = clients.inside(path)
         judge.checks.expect('GET %s: there' % path, 200, wanted.status)

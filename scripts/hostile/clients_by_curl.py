@@ -21,7 +21,13 @@ PATHS = [
     '/containers/ABCU0000017', '/containers/%41BCU0000017', '/containers/ABCU0000022', '/work/91%2F23/V12/load',
     '/work/91/23/V12/load', '/work/91%2F23/V12/discharge', '/contrls/HAULA/1', '/contrls/HAULA/3', '/contrls/HAULA/9', '/picture/',
     '/partners/HAULA', '/partners/%48AULA', '/partners/HAULX', '/partners/', '/partners/%zz', '/partners/HAULA/interchanges',
-    '/health', '/health?a=b', '/health/', '/metrics', '/metrics/HAULA']
+    '/health', '/health?a=b', '/health/', '/metrics', '/metrics/HAULA', '/json/yard', '/json/yard?a=b', '/json/yard.csv',
+    '/json/containers/%41BCU0000017', '/json/containers/ABCU0000022', '/json/work/91%2F23/V12/load', '/json/replies/HAULA/3',
+    '/json/health', '/json/picture', '/json/interchanges', '/json/', '/json', '/jsonyard', '/csv/yard', '/csv/lists/91%2F23/V12/load',
+    '/csv/lists/91%2F23/V12/discharge', '/csv/partners', '/csv/partners/HAULA', '/csv/tickets/HAULA/1', '/csv/json/yard', '/pages/calls',
+    '/pages/yard/A', '/pages/yard/a', '/pages/yard/AB', '/pages/yard/%41', '/pages/yard.csv', '/pages/json/yard', '/pages/',
+    '/pages/containers/ABCU0000022', '/pages/work/91%2F23/V12/load', '/pages/find?container=0017', '/pages/find?container=91/23',
+    '/pages/find?container=HAULA&x', '/pages/find?container=%', '/archives/1/json/yard']
 # a path of HAULA and what it may bring: its own, another's, one too early, one that names nobody, and paths that name nobody
 OWN_TEXTS = [
     ('HAULA', gate_in(1)), ('HAULA', gate_in(1)), ('%48AULA', gate_in(4)), ('HAULA', gate_in(5)), ('HAULA', gate_in(2)),

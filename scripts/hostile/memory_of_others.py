@@ -21,6 +21,7 @@ from model.rows import copy_files, rows_in, rows_of
 from model.setup import DEMO
 from model.syntax import sender_of
 from model.vessels import REPORTED
+from model.views import SHOWN, has_view, printed_as
 
 from .books import Different, expect
 from .calls_of_others import NOT_NOW
@@ -83,21 +84,26 @@ def keys_of(office):
     return [*WHOLE, *found.items()]
 
 
+def views_of(kind):
+    """As what a report is shown that is no page."""
+    return [view for view in SHOWN if view == 'text' or kind in PAGED and has_view(kind, view)]
+
+
 def refuse_reports(refusing, office, _text, steps, counted):
-    """Allocations of a report of each kind: of those by which it opens the store each of a first step, of those after them
-    each of a second."""
+    """Allocations of a report of each kind, as text, JSON and CSV: of those by which it opens the store each of a first step, of
+    those after them each of a second."""
     before = rows_in(refusing.store)
     opened = allocations_of(refusing, ['report', refusing.store, 'visits', UNUSED]) - PRINTING
-    for kind, key in keys_of(office):
-        words = ['report', refusing.store, kind, *([key] if key else [])]
-        text, ended = printed(office, kind, key)
+    for kind, key, view in [(kind, key, view) for kind, key in keys_of(office) for view in views_of(kind)]:
+        words = ['report', refusing.store, kind, *([key] if key else []), *(['--' + view] if view != 'text' else [])]
+        text, ended = printed_as(office, view, kind, key)
         wanted = text, '', ended
         behind = range(opened + 1, allocations_of(refusing, words) + 1, steps[1])
         for refused in [*range(1, opened + 1, steps[0]), *behind]:
             given = refusing.run(words, refused)
             if given not in WANTS:
-                expect('report %s, allocation %d' % (kind, refused), wanted, given)
-            counted['report %s: %s' % (kind, 'told that memory ran out' if given in WANTS else 'the report')] += 1
+                expect('report %s as %s, allocation %d' % (kind, view, refused), wanted, given)
+            counted['report %s as %s: %s' % (kind, view, 'told that memory ran out' if given in WANTS else 'the report')] += 1
     expect('rows behind the reports', before, rows_in(refusing.store))
 
 
@@ -189,14 +195,16 @@ def refuse_requests(refusing, before, text, steps, counted):
 
 
 def routes_of(office, text):
-    """Requests by each route that shows pages or texts, and a delivery by the path of its sender, each by its name."""
-    found = {'/': get('/'), '/calls': get('/calls'), '/texts/..': get('/texts/0')}
+    """Requests by each route that shows pages, JSON, CSV or texts, and a delivery by the path of its sender, each by its name."""
+    found = {'/': get('/'), '/calls': get('/calls'), '/texts/..': get('/texts/0'), '/pages/yard/..': get('/pages/yard/A')}
     for kind, key in keys_of(office):
-        if kind in PAGED:
-            path = '/pages' + path_of(kind, key)
+        for front in (['/pages'] if kind in PAGED else []) + ['/' + view for view in views_of(kind) if view != 'text']:
+            path = front + path_of(kind, key)
             found['/'.join([*path.split('/')[:3], *['..'] * bool(key)])] = get(path)
         if kind == 'container':
             found['/pages/find'] = get('/pages/find?container=' + key)
+            found['/pages/find, the end of a number'] = get('/pages/find?container=' + key[-4:])
+            found['/pages/containers/.., never came'] = get('/pages/containers/' + UNUSED)
     found['/partners/../interchanges'] = post(text).replace(' /', ' /partners/%s/' % sender_of(text), 1)
     return found
 
@@ -214,8 +222,17 @@ def refuse_routes(refusing, before, text, steps, counted):
         refusing.copy_from(start)
 
 
+def answer_to(server, request):
+    """What a server answers to a request; nothing, if it closes the connection without an answer."""
+    try:
+        return exchanged(server.port, request)
+    except OSError:
+        return ''
+
+
 def serve(refusing, before, requests, refused, counted, name):
-    """A server that is sent these requests: how many allocations it made."""
+    """A server that is sent these requests: how many allocations it made. It may close one connection for which it had no memory,
+    with nothing done."""
     office, server = deepcopy(before), Server(refusing, len(requests), refused)
     what = '%s, allocation %d' % (name, refused)
     if not server.line:
@@ -223,10 +240,14 @@ def serve(refusing, before, requests, refused, counted, name):
             raise Different(what + ', not opened')
         counted[name + ': told that memory ran out'] += 1
         return refusing.allocations()
+    closed = 0
     for request in requests:
-        given = exchanged(server.port, request)
+        given = answer_to(server, request)
         if given == NOT_NOW:
             counted[name + ': not now'] += 1
+        elif not given and refused and not closed:
+            closed = 1
+            counted[name + ': closed'] += 1
         else:
             expect(what, response(office, request), given)
             counted[name + ': answered'] += 1

@@ -226,8 +226,9 @@ class Round:
         return own_delivery(self.random, self.day, self.office, text)
 
     def page(self):
-        """The path of a page on which something may be found."""
-        return self.random.choice(['/', *['/pages' + report_path(self.random, self.office)] * 9])
+        """The path of a page, or of a report as JSON or CSV, under which something may be found."""
+        front = self.random.choice(['/pages', '/pages', '/json', '/csv'])
+        return self.random.choice(['/', *[front + report_path(self.random, self.office)] * 9])
 
     def form(self):
         """What stands after the path of the form, with a number that was typed."""

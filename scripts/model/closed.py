@@ -47,6 +47,7 @@ NAMED, LOOKED = 3, 0.3      # lists that were put away and are named again in a 
 QUESTIONS = 4               # after a turn
 ASKED = 20                  # reports by a command after the turns; all of them by HTTP
 ANOTHER_DAY = 0.25          # of the archives that are spoiled: the rows of another day
+AS_JSON = 0.3               # of the reports by a command: asked as JSON, too
 OF_ARCHIVES = 24            # reports that an archive is asked for by HTTP
 COMPARED = 24               # reports that are compared with those of the store that is never closed
 NAMES = ['office-%04d.db', 'archive %d', '%d', 'Hafen-Altona-\u00e4%d.db', 'office.db.%d', '-%d.db']
@@ -202,9 +203,11 @@ class Closable:
         return texts
 
     def asks(self, asked):
-        """Reports."""
+        """Reports, and some of them as JSON, too."""
         for kind, key in asked:
             self.beside.report(self.name, self.program, self.office, kind, key)
+            if self.chance.random() < AS_JSON:
+                self.beside.report(self.name, self.program, self.office, kind, key, ('--json',))
 
     def asks_all(self):
         """All reports: those on the whole terminal and some others by a command, all others by HTTP."""

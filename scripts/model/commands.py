@@ -10,20 +10,24 @@ import os
 
 from .closing import close as closed
 from .deliveries import kept_texts
+from .keys import PARTS
 from .moments import are_digits
 from .office import Office, json_text
 from .register import EMPTY, MOST_ARCHIVES
-from .reports import REPORTS, Lost, has_key, printed
+from .reports import Lost, has_key
 from .rows import REGISTER
 from .rules import NEWEST
 from .setup import read_setup
 from .stream import answers, lines, status
+from .views import printed_as
 from .words import text_of
 
 # how many words stand after each command: at least, at most
 WORDS = {
     'init': (3, 3), 'deliver': (2, 2), 'serve': (3, 3), 'report': (2, 3), 'demo': (0, 0), 'account': (3, 3),
     'migrate': (2, 2), 'texts': (1, 2), 'close': (1, 2)}
+# as what a report may be asked for
+VIEWS = {'--json': 'json', '--csv': 'csv'}
 CLAP = 'a text of clap'     # which the model doesn't know
 MOST_CONNECTIONS = 1000000
 
@@ -98,12 +102,17 @@ def serve(files, store, port, count):
     return 'listening 127.0.0.1:%d\nserved %d\n' % (int(port), int(count)), 0
 
 
-def report(files, store, kind, key=None):
-    """A report on the whole terminal has no key, and any other has one."""
-    if kind not in REPORTS or has_key(kind) != (key is not None):
+def report(files, store, kind, key=None, views=()):
+    """A report on the whole terminal has no key, and any other has one. It is text, or what one option asks for; the archives
+    are text, and `yardcsv` is CSV."""
+    view = views[0] if views else 'text'
+    if kind == 'yardcsv' and view != 'json':
+        kind, view = 'yard', 'csv'
+    if (kind not in PARTS or has_key(kind) != (key is not None) or len(views) > 1
+            or (view != 'text' and kind in ('archives', 'yardcsv'))):
         raise Fault('usage: office report DB KIND [KEY]', 2)
     try:
-        return printed(office_in(files, store), kind, key or '')
+        return printed_as(office_in(files, store), view, kind, key or '')
     except Lost as lost:
         raise Fault('store: Store', 3) from lost
 
@@ -183,13 +192,17 @@ def outcome(files, words):
     command, *others = words
     if words == ['--help']:
         return CLAP, '', 0
+    options = {}
+    if command == 'report':
+        options = dict(views=[VIEWS[word] for word in others if word in VIEWS])
+        others = [word for word in others if word not in VIEWS]
     if command not in WORDS or not WORDS[command][0] <= len(others) <= WORDS[command][1]:
         return '', CLAP, 2
     try:
         does = {
             'init': init, 'deliver': deliver, 'serve': serve, 'report': report, 'account': account, 'migrate': migrate,
             'texts': texts, 'close': close}
-        text, ended = does[command](files, *others)
+        text, ended = does[command](files, *others, **options)
         return text, '', ended
     except Fault as fault:
         return '', fault.text + '\n', fault.ended

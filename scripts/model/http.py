@@ -11,10 +11,12 @@ from .explained import NOBODY, printed
 from .keys import PARTS, decoded, read_key
 from .moments import are_digits
 from .office import json_text
-from .pages import KINDS as PAGED, page, start, told, typed
+from .pages import KINDS as PAGED, drawn, typed, typed_words
 from .reports import OF_NUMBERS, Lost, own_report, report
 from .setup import is_utf8
 from .syntax import BREAKS, FAULTS, LONGEST_TEXT, is_printable, number_of, sender_of
+from .value_pages import found as found_page, page, start, told, visits_of, yard
+from .views import SHOWN, has_view, report_as
 
 LONGEST_HEAD = 8192
 MOST_FIELDS = 64
@@ -42,7 +44,6 @@ ROUTES = [
     (r'/health', 'GET', 'health'),
     (r'/metrics', 'GET', 'metrics'),
     (r'/yard', 'GET', 'yard'),
-    (r'/yard\.csv', 'GET', 'yardcsv'),
     (r'/blocks', 'GET', 'blocks'),
     (r'/calls', 'GET', 'calls'),
     (r'/picture', 'GET', 'picture'),
@@ -62,9 +63,14 @@ PAGE_FIELDS = [
     "frame-ancestors 'none'; base-uri 'none'",
     'X-Content-Type-Options: nosniff', 'Referrer-Policy: no-referrer', 'Cache-Control: no-store']
 # what the body of a report is, if not plain text
-CONTENT_TYPES = {'reply': 'application/json', 'yardcsv': 'text/csv', 'contrl': 'application/EDIFACT',
+CONTENT_TYPES = {'reply': 'application/json', 'contrl': 'application/EDIFACT',
     'texts': 'application/EDIFACT', 'picture': HTML,
     'health': 'application/json', 'metrics': 'text/plain; version=0.0.4'}
+
+# and as JSON or CSV, whatever it is as text
+OF_VIEWS = {'json': 'application/json', 'csv': 'text/csv'}
+# the table of the yard has an address of its own, too
+YARD_TABLE = '/yard.csv'
 
 # the most bytes of a page of texts, unless its first text has more
 MOST_OF_TEXTS = 1048576
@@ -160,10 +166,25 @@ def check_method(head, method):
         raise Refusal(405, 'method', allowed=method)
 
 
-def route_of(head):
-    """What its path leads to, and the key that stands in it."""
-    found = route_at(address_of(head))
-    if found is None:
+def view_of(address):
+    """As what an address asks for a report, under /json and /csv not as text; and the path of that."""
+    if address == YARD_TABLE:
+        return 'csv', '/yard'
+    for view in OF_VIEWS:
+        if address.startswith('/' + view):
+            return view, address[len('/' + view):]
+    return 'text', address
+
+
+def is_shown(kind, view):
+    """Whether it is a report that is shown so."""
+    return kind not in NO_REPORTS and has_view(kind, view)
+
+
+def route_of(head, path, view, is_archive=False):
+    """What a path leads to, and the key that stands in it. As JSON, as CSV and of an archive there are only reports."""
+    found = route_at(path)
+    if found is None or ((is_archive or view != 'text') and not is_shown(found[1], view)):
         raise Refusal(404, 'none')
     method, kind, key = found
     check_method(head, method)
@@ -193,11 +214,14 @@ def paged(office, head):
     address = address_of(head)
     if address == '/':
         check_method(head, 'GET')
-        return 200, start(office.setup.terminal, report(office, 'metrics', ''))
+        return 200, start(office)
     if address == PAGES + '/find':
         check_method(head, 'GET')
-        what, number = typed(typed_in(head))
-        return page_of(office, 'container', number) if what == 'number' else (404, told(what, number))
+        return found_by(office, typed_in(head))
+    block = re.fullmatch(PAGES + r'/yard/([^/]+)', address)
+    if block:
+        check_method(head, 'GET')
+        return (200, yard(office, block.group(1))) if re.fullmatch('[A-Z]', block.group(1)) else (404, told('not here'))
     method, kind, key = route_at(address[len(PAGES):]) or (None, None, None)
     if kind not in PAGED:
         return 404, told('not here')
@@ -205,34 +229,39 @@ def paged(office, head):
     return page_of(office, kind, key)
 
 
+def found_by(office, value):
+    """Status and page of what was typed: a container by its number, or what another text finds."""
+    what, number = typed(value)
+    if what == 'number':
+        return page_of(office, 'container', number)
+    words = typed_words(value) if what == 'form' else None
+    return (404, told(what, number)) if words is None else (200, found_page(office, words))
+
+
 def page_of(office, kind, key):
-    """Status and page of a report: its text, shown, with the visits of a container; or that there is nothing."""
-    text = report(office, kind, key)
-    if text is None:
+    """Status and page of a report, as tables, also of a container that never came; or that there is nothing."""
+    values = read_key(kind, key) if PARTS[kind] else []
+    if values is None or kind != 'container' and report(office, kind, key) is None or kind == 'visits' and not visits_of(office, *values):
         return 404, told('not here')
-    values = read_key(kind, key) if PARTS[kind] else [None]
-    visits = report(office, 'visits', key) if kind == 'container' else None
-    return 200, page(kind, values[0] if len(values) == 1 else values, text, visits)
+    return 200, drawn(report(office, kind, key)) if kind == 'picture' else page(office, kind, values)
 
 
 # ---- archives
 
-def of_archive(office, head, place, path):
-    """Kind and text of a report that the archive of a place tells, as the store that it was. A number that was closed before is
-    told by its own archive, so the other needn't be there."""
-    method, kind, key = route_at(path) or (None, None, None)
-    if kind is None or kind in NO_REPORTS:
-        raise Refusal(404, 'none')
-    check_method(head, method)
+def of_archive(office, head, place, address):
+    """Kind and text of a report that the archive of a place tells, as the store that it was, and as what it is shown. A number
+    that was closed before is told by its own archive, so the other needn't be there."""
+    view, path = view_of(address)
+    kind, key = route_of(head, path, view, True)
     archive = office.archives.get(place)
     values = read_key(kind, key) if PARTS[kind] else []
     if archive is None or values is None:
-        return kind, None
+        return kind, None, view
     if place in office.lost and not (kind in OF_NUMBERS and archive.archive_of(*values)):
         raise Lost
     archive.lost, archive.told_still = office.lost, office.told_still
     try:
-        return kind, own_report(archive, kind, key)
+        return kind, own_report(archive, kind, key, SHOWN[view]), view
     finally:
         archive.lost, archive.told_still = {}, frozenset()
 
@@ -323,9 +352,9 @@ def answered(office, request, ahead, name):
         return status, HTML, text
     archive = ARCHIVE.fullmatch(address_of(head))
     if archive:
-        kind, text = of_archive(office, head, int(archive.group(1)), archive.group(2))
-        return found(kind, text)
-    kind, key = route_of(head)
+        return found(*of_archive(office, head, int(archive.group(1)), archive.group(2)))
+    view, path = view_of(address_of(head))
+    kind, key = route_of(head, path, view)
     if kind == 'delivery':
         return delivered(office, body_of(head, request))
     if kind == 'own delivery':
@@ -338,14 +367,14 @@ def answered(office, request, ahead, name):
         body_of(head, request)
         answer = office.add_account(*added_by(key))
         return ACCOUNT_FAULTS.get(answer.get('fault'), 200), 'application/json', json_text(answer)
-    return found(kind, page_of_texts(office, key) if kind == 'texts' else report(office, kind, key))
+    return found(kind, page_of_texts(office, key) if kind == 'texts' else report_as(office, view, kind, key), view)
 
 
-def found(kind, text):
+def found(kind, text, view='text'):
     """Status, content type and body of a report, if there is something to tell."""
     if text is None:
         raise Refusal(404, 'none')
-    return 200, CONTENT_TYPES.get(kind, 'text/plain'), text
+    return 200, OF_VIEWS.get(view) or CONTENT_TYPES.get(kind, 'text/plain'), text
 
 
 def response(office, request, ahead=None, name=None):

@@ -204,6 +204,7 @@ def metrics(office):
         gauge('office_accounts', 'Partners that have an account.', len(waits))
         + gauge('office_containers', 'Containers in the yard.', len(office.fold().terminal.yard))
         + gauge('office_visits', 'Visits recorded, open and closed.', len(visits))
+        + gauge('office_visits_ever', 'Visits recorded, put away ones too.', len(office.fold().terminal.visits))
         + gauge('office_visits_limit', 'Visits that may be recorded.', office.setup.most_visits)
         + gauge('office_interchanges_waiting', 'Interchanges that wait for a number that is missing.', sum(waits))
         + gauge('office_partners_waiting', 'Partners of whom an interchange waits.', sum(count > 0 for count in waits))

@@ -125,27 +125,32 @@ def has_key(kind):
     return PARTS[kind] > 0
 
 
-WHOLE = [(kind, '') for kind in REPORTS if not has_key(kind)]
+WHOLE = [(kind, '') for kind in PARTS if not has_key(kind)]
 
 
-def report(office, kind, key=''):
-    """The report of a kind under a key. None where nothing is found, also under a key that can't be read."""
-    return reported(office, kind, read_key(kind, key) if has_key(kind) else [])
+def as_text(office, kind, *values):
+    """A report as text."""
+    return REPORTS[kind](office, *values)
 
 
-def own_report(office, kind, key=''):
+def report(office, kind, key='', shown=as_text):
+    """The report of a kind under a key, shown so. None where nothing is found, also under a key that can't be read."""
+    return reported(office, kind, read_key(kind, key) if has_key(kind) else [], shown)
+
+
+def own_report(office, kind, key='', shown=as_text):
     """The same as an archive is asked by its store: of a list it tells what stands there."""
     values = read_key(kind, key) if has_key(kind) else []
     if values and kind in OF_LISTS and ((values[0], values[1]), values[2]) in office.away:
         return None
-    return reported(office, kind, values)
+    return reported(office, kind, values, shown)
 
 
-def reported(office, kind, values):
+def reported(office, kind, values, shown):
     """The report of a kind on what a key names; None where it names nothing."""
     if values and kind in OF_NUMBERS and office.is_lost(*values):
         raise Lost
-    return None if values is None else REPORTS[kind](office, *values)
+    return None if values is None else shown(office, kind, *values)
 
 
 def printed(office, kind, key=''):

@@ -17,7 +17,8 @@ WHOLE = ['yard', 'yard', 'yardcsv', 'blocks', 'calls', 'calls', 'partners', 'par
 KINDS = [
     (12, 'delivery'), (6, 'own delivery'), (2, 'altered delivery'), (8, 'report'), (2, 'odd report'), (1, 'method'), (1, 'route'),
     (2, 'length'), (1, 'cut'), (6, 'altered head'), (2, 'large'), (2, 'account'), (1, 'odd account'), (6, 'page'),
-    (1, 'odd page'), (2, 'find'), (2, 'texts'), (1, 'odd texts'), (2, 'archive'), (1, 'odd archive'), (3, 'explain')]
+    (1, 'odd page'), (2, 'find'), (2, 'texts'), (1, 'odd texts'), (2, 'archive'), (1, 'odd archive'), (3, 'explain'),
+    (6, 'view'), (1, 'odd view')]
 METHODS = ['GET', 'POST', 'PUT', 'HEAD', 'get', 'OPTIONS', 'DELETE', 'X', 'PATCH', 'CONNECT', "!#$%&'*+-.^_`|~"]
 PATHS = [
     '/', '*', '/x', '/yard/', '//yard', '/Yard', 'yard', 'http://127.0.0.1/yard', '/yardcsv', '/yard.CSV', '/visits',
@@ -32,7 +33,18 @@ PAGES = [
     '/pages/partners/HAULA/interchanges', '/pages/partners/HAULZ/gate', '/pages/find', '/pages/find/', '/pages/find/x',
     '/pages/x', '/pagesyard', '/pages/pages/yard', '/pages//yard', '/Pages/yard', '/pages/Yard', '/%70ages/yard',
     '/pages/f%69nd', '/pages/%79ard', '//pages/yard', '/pages/visits', '/pages/visits/', '/pages/containers/A/B',
-    '/page/yard', '/pages/work/9123456/V12', '/pages/contrls/HAULA', '/pages/calls/', '//']
+    '/page/yard', '/pages/work/9123456/V12', '/pages/contrls/HAULA', '/pages/calls/', '//', '/pages/yard/A', '/pages/yard/Z',
+    '/pages/yard/a', '/pages/yard/AB', '/pages/yard/', '/pages/yard/%41', '/yard/A', '/json/yard/A', '/csv/yard/A', '/archives/1/yard/A']
+# what stands in place of a report as JSON or CSV
+VIEWS = [
+    '/json', '/csv', '/json/', '/csv/', '/jsonyard', '/csvyard', '/json/Yard', '/JSON/yard', '/json//yard', '/json/yard/',
+    '/json/yard.csv', '/csv/yard.csv', '/json/csv/yard', '/csv/json/yard', '/json/json/yard', '/json/pages/yard',
+    '/pages/json/yard', '/json/archives/1/yard', '/json/interchanges', '/csv/interchanges', '/json/texts/0', '/csv/explain',
+    '/json/partners/HAULZ/gate', '/json/picture', '/json/health', '/json/metrics', '/csv/picture', '/csv/health', '/csv/metrics',
+    '/json/contrls/HAULA/1', '/csv/contrls/HAULA/1', '/csv/replies/HAULA/1', '/csv/tickets/HAULA/1', '/csv/partners/HAULA',
+    '/csv/containers/ABCU0000017', '/json/visits', '/json/visits/%zz', '/csv/visits/ABCU0000018', '/yard.csv/', '/yard.csvx',
+    '/%6ason/yard', '/json/%79ard', '/archives/1/json', '/archives/1/json/picture', '/archives/1/csv/tickets/HAULA/1',
+    '/archives/1/yard.csv', '/archives/1/json/yard.csv', '/archives/1/json/archives/1/yard', '/archives/0/json/yard']
 # what stands in an address after `/pages/find`, with a number that was typed
 FORMS = [
     (24, '?container=%s'), (1, '?container=%s&x=1'), (1, '?container=%s&container=ABCU0000022'), (1, '?container=%s?'),
@@ -42,7 +54,8 @@ ODD_NUMBERS = [
     '', '+', '%20', '-', 'ABCU000001', 'ABCU00000177', 'ABC00000017', '0000017', 'ABCU0000018', 'abcu+000001-8', 'ABCU000001A',
     '%', '%4', '%zz', 'ABCU0000017%', '%25', '%00', '%0A', '%3Cb%3EABCU%3C/b%3E', "'><script>", '"onclick="x', '&amp;',
     'ABCU0000017%26', 'A' * 300, '%C3%A4bcu0000017', '\xc3\xa4', '%80%FF', '%E2%82%AC', 'ABCU0000017;', 'TEXU3070079',
-    'ABCU000001%37', '%41%42%43%55%30%30%30%30%30%31%37', '+-+-', 'ABCU9999990', 'ZZZZ0000000']
+    'ABCU000001%37', '%41%42%43%55%30%30%30%30%30%31%37', '+-+-', 'ABCU9999990', 'ZZZZ0000000', '017', '17', '22', 'BK7', 'bk7', 'HAULA',
+    'LINEA', '9123456', 'V12', '9123456+V12']
 # what stands in place of a number of texts
 ODD_TEXTS = [
     '/texts', '/texts/', '/texts/00', '/texts/01', '/texts/+1', '/texts/-1', '/texts/1x', '/texts/x', '/texts/0x1', '/texts/%30',
@@ -348,8 +361,13 @@ def random_request(random, day, office):
         return get(random, path, random.choice(['GET', 'GET', random.choice(METHODS)]))
     if kind == 'find':
         return find(random, office)
+    if kind == 'view':
+        return get(random, random.choice(['/json', '/csv']) + report_path(random, office))
+    if kind == 'odd view':
+        path = random.choice(['/json', '/csv']) + path_of(*odd(random, office))
+        return get(random, random.choice([path] + [random.choice(VIEWS)] * 3), random.choice(['GET', 'GET', 'GET', *METHODS]))
     if kind == 'archive':
-        return get(random, of_archive(random, office, report_path(random, office)))
+        return get(random, of_archive(random, office, random.choice(['', '', '/json', '/csv']) + report_path(random, office)))
     if kind == 'odd archive':
         return get(random, random.choice(ODD_ARCHIVES), random.choice(['GET', 'GET', 'GET', *METHODS]))
     if kind == 'texts':

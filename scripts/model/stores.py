@@ -81,9 +81,9 @@ class Program:
         """Puts away what an archive keeps; of a copy that is made, if none is named."""
         return self.run('close', self.store, *archive)
 
-    def report(self, kind, key):
-        """A report; those on the whole terminal have no key."""
-        return self.run('report', self.store, kind, *([key] if has_key(kind) else []))
+    def report(self, kind, key, view=()):
+        """A report, as text or as a flag says; those on the whole terminal have no key."""
+        return self.run('report', self.store, kind, *([key] if has_key(kind) else []), *view)
 
     def before_last(self, process):
         """What is done with a server before its last request."""
@@ -148,11 +148,11 @@ class Beside:
         wanted = json_text(answer) + '\n', '', 1 if answer['answer'] == 'refused' else 0
         self.expect('account ' + answer['answer'], name, wanted, program.account(code, kind))
 
-    def report(self, name, program, office, kind, key=''):
-        """A report, or that there is none, or that it can't be had."""
-        wanted = outcome({'store': office}, ['report', 'store', kind, *([key] if has_key(kind) else [])])
-        found, got = {0: 'found', 1: 'not found'}.get(wanted[2], 'not to be had'), program.report(kind, key)
-        self.expect('report %s %s' % (kind, found), '%s, %s' % (name, key), wanted, got)
+    def report(self, name, program, office, kind, key='', view=()):
+        """A report, or that there is none, or that it can't be had; as text or as a flag says."""
+        wanted = outcome({'store': office}, ['report', 'store', kind, *([key] if has_key(kind) else []), *view])
+        found, got = {0: 'found', 1: 'not found'}.get(wanted[2], 'not to be had'), program.report(kind, key, view)
+        self.expect(' '.join(['report', kind, *view, found]), '%s, %s' % (name, key), wanted, got)
 
     def rows(self, name, program, office):
         """The rows of all tables, and that the store is sound."""
@@ -257,6 +257,7 @@ def try_list(beside, seed, requests):
         asked = [question(chance, office) for _question in range(QUESTIONS)]
         for kind, key in WHOLE + asked:
             beside.report(name, program, office, kind, key)
+            beside.report(name, program, office, kind, key, (chance.choice(['--json', '--csv']),))
         beside.rows(name, program, office)
         beside.texts(name, program, office, chance)
         beside.rebuilt(name, program, office)
@@ -279,7 +280,9 @@ def try_faults(beside):
                 (['report', store, 'visits', '%'], no_store, 3), (['deliver', store, missing], unread, 3),
                 (['deliver', store, partners], no_store, 3), (['report', store, 'list'], usage, 2),
                 (['report', store, 'yard', 'A'], usage, 2), (['report', store, 'yardcsv', ''], usage, 2),
-                (['report', store, 'container'], usage, 2), (['report', store, 'blocks', ''], usage, 2)):
+                (['report', store, 'container'], usage, 2), (['report', store, 'blocks', ''], usage, 2),
+                (['report', store, 'yard', '--json', '--csv'], usage, 2), (['report', store, 'yardcsv', '--json'], usage, 2),
+                (['report', store, 'archives', '--csv'], usage, 2), (['report', store, '--json', 'container'], usage, 2)):
             beside.expect('faults', ' '.join(words), ('', told_of, ended), program.run(*words))
         beside.expect('init ready', 'faults', ('ready\n', '', 0), program.run('init', store, partners, blocks))
         beside.expect('faults', 'init again', ('', 'setup: Csv\n', 1), program.run('init', store, bad, blocks))

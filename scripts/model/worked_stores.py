@@ -263,9 +263,11 @@ def is_response(cells, given):
     """Whether a response is what a row's cells say, to the byte but for what an answer is told in short."""
     request, status, cell = cells
     head, _empty, body = given.partition('\r\n\r\n')
-    is_report = request.startswith('GET') and status == '200 OK' and '/replies/' not in request and 'health' not in request
+    is_told_so = re.search('/replies/|/json/|health', request)
+    is_report = request.startswith('GET') and status == '200 OK' and not is_told_so
     status, *allow = status.split(', ')
-    wanted = ['HTTP/1.1 ' + status, 'Content-Type: ' + ('text/plain' if is_report else 'application/json')]
+    kind = 'application/json' if not is_report else 'text/csv' if '/csv/' in request else 'text/plain'
+    wanted = ['HTTP/1.1 ' + status, 'Content-Type: ' + kind]
     wanted += ['Content-Length: %d' % len(body)] + [field.strip('`') for field in allow] + ['Connection: close']
     told = re.findall('`([^`]*)`', cell)
     if told and not cell.startswith('`'):

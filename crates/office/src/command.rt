@@ -22,7 +22,7 @@ use office_desk::load_beside;
 use office_http::Site;
 use office_loading::Closed;
 use office_replies::Port;
-use office_reports::ReportKind;
+use office_reports::{ReportKind, View};
 use office_tables::TableFault;
 use sqlite::Unknown;
 use std::fs::File;
@@ -68,7 +68,12 @@ pub(crate) fn run<R: Read, W: Write, E: Write>(
             }
             Err(_) => tell_fault(errors, &TableFault::Memory),
         },
-        Request::Report { store, kind, key } => report(rt, store, kind, key, writer, errors),
+        Request::Report {
+            store,
+            kind,
+            view,
+            key,
+        } => report(rt, store, kind, view, key, writer, errors),
         Request::Archives { store } => archives(rt, store, writer, errors),
         Request::Texts { store, from } => texts(rt, store, from, writer, errors),
         Request::Account { store, code, kind } => account(rt, store, code, kind, writer, errors),
@@ -193,11 +198,12 @@ pub(crate) fn account<W: Write, E: Write>(
     }
 }
 
-/// `report DB KIND [KEY]`: prints a report, or `none` if there is nothing to report.
+/// `report DB KIND [KEY] [--json] [--csv]`: prints a report, shown so, or `none` if there is nothing to report.
 pub(crate) fn report<W: Write, E: Write>(
     rt: &HostRuntime,
     store: &str,
     kind: ReportKind,
+    view: View,
     key: Option<&str>,
     writer: &mut Port<W>,
     errors: &mut Port<E>,
@@ -209,7 +215,7 @@ pub(crate) fn report<W: Write, E: Write>(
     let store = store.as_str();
     tell_long(rt, errors, Work::OPENING, store);
     let beside = InUnknownFiles::new(rt);
-    match report_over(rt, store, Unknown, &beside, kind, key, writer) {
+    match report_over(rt, store, Unknown, &beside, kind, view, key, writer) {
         Ok(ended) => tell_reported(rt, errors, store, ended),
         Err(fault) => tell_open(Audience::of(rt), errors, store, &fault),
     }

@@ -10,7 +10,7 @@ use crate::shelf::{ArchiveStart, FileShelf};
 use edi_messages::Call;
 use office_archives::{Archives, Looked, ManyArchives, NO_ARCHIVE, Shelf};
 use office_closing::Register;
-use office_reports::Query;
+use office_reports::{Query, View};
 use office_tables::{Kept, TableFault};
 use sqlite::{FileFrom, FileStore, Start, Unknown};
 use std::alloc::Global;
@@ -166,8 +166,9 @@ impl<'a> Archives for FileArchives<'a> {
         code: &str,
         partner: u16,
         number: u32,
+        view: View,
     ) -> Result<String, TableFault> {
-        self.archives.ticket(alloc, code, partner, number)
+        self.archives.ticket(alloc, code, partner, number, view)
     }
 
     fn report(

@@ -7,9 +7,10 @@ ghost use Rattle.office_admission.specs.Setups.{setup_content};
 use office_admission::Setup;
 use office_closing::{
     Archive, Register, Segment, SettledList, are_first_accounts, is_passed, is_same_archive,
-    is_same_list, is_same_segment, newest_number,
+    is_same_list, is_same_segment,
 };
 use office_desk::Beside;
+use terminal_core::newest_number;
 
 /// The archive at a place, of those that a register names.
 pub(crate) fn archive_at(archives: &[Archive], place: u16) -> Option<&Archive>

@@ -1,5 +1,5 @@
 -- A desk of which nothing was put away, and no archives: what it is asked is answered as desk and archives answer together.
-use Rattle.std.{specs.Prelude.{◌&&◌, is_some, nat_le, string_bytes}, proofs.lemmas.Bool.{and_parts, leb-true}}
+use Rattle.std.{specs.Prelude.{◌&&◌, is_some, nat_le, option_map, string_bytes}, proofs.lemmas.Bool.{and_parts, leb-true}}
 use Rattle.std.proofs.Common.{◌≡◌, ℕ, zero, suc, ◌≤◌, List, [], ◌∷◌, Bool, true, false, Option, None, Some, Result, refl, sym, ap, subst, ◌∙◌, length, arith}
 use Rattle.sqlite.specs.{Held.state, Tree.Trees}
 use Rattle.sqlite_trees.specs.declared.store.Store.{Ghosts}
@@ -7,18 +7,22 @@ use Rattle.edi_messages.specs.Owned.{call_content}
 use Rattle.terminal_core.specs.State.{TerminalState}
 use Rattle.office_admission.specs.Setups.{SetupContent, setup_content}
 use Rattle.office_desk.{specs.{Calls.{Leads, Looks}, Desks.IsSound, Looking.DeskShows, declared.desk.Desk.Desk}, proofs.LookLemmas.looks_nowhere}
-use Rattle.office_desk.specs.Reports.{DeskTells, TellsOf, TellsReplyOf, contrl_for_partner, partner_called, ticket_of}
+use Rattle.office_desk.specs.Reports.{DeskTells, TellsAbout, TellsReplyOf, contrl_for_partner, partner_called, ticket_of}
 use Rattle.office_parts.specs.{Archives.{Archive, Hold, archive_of, reply_by}, Away.{AreAway, lines_away}, Naming.AreHere, OwnTerminal.own_terminal}
 use Rattle.office_parts.specs.{OwnLists.{ListName, list_name, rows_without_lists, without_lists}, Parts.{AreClosed, Archived}}
 use Rattle.office_replies.specs.{Events.Event, declared.deliver.Response.Response}
-use Rattle.office_reports.specs.{Looking.{Look, of_archive, report, texts_after}, declared.query.NotNow.NotNow, declared.query.Query.Query}
+use Rattle.office_reports.specs.{Looking.{Look, of_archive, report, texts_after}, declared.query.NotNow.NotNow, declared.query.About.About}
+use Rattle.office_reports.specs.{declared.query.Query.Query, declared.query.View.View, declared.query.View.TheVariants.{Text, Json, Csv, Page}}
+use Rattle.office_report_data.specs.Told.{ReportContent, shown}
 use Rattle.office_loading.specs.Closed.{last_closed}
 use Rattle.office_history.specs.After.{machine_after}
 use Rattle.office_rows.specs.Rows.{Rows}
-use Rattle.office_archives.{specs.{Standing.{IsBeyond, NamesNoneAway, StandsBeside}, Telling.{IsOfNumber, SaysIfAway, TellsTogether}}, proofs.Together.looks_on}
-use Rattle.office_archives.{specs.Together.{LeadsTogether, LooksTogether, ShowsBeside, TellsBeside}, proofs.Standing.{beyond_answered, beyond_left}}
-use Rattle.office_archives.proofs.Beside.{calls_beside, container_beside, list_beside, neither_beside, nobody_beside, number_beside, tells_so}
-use Rattle.office_reports.specs.declared.query.Query.TheVariants as query
+use Rattle.office_archives.specs.{Standing.{IsBeyond, NamesNoneAway, StandsBeside}, Telling.{AreAsked, IsOfNumber, SaysIfAway, TellsTogether, shown_beside}}
+use Rattle.office_archives.{specs.Together.{LeadsTogether, LooksTogether, ShowsBeside, TellsBeside}, proofs.{Noted.{asked_end, no_note}, Together.looks_on}}
+use Rattle.office_archives.proofs.Beside.{calls_beside, container_beside, expected_beside, here_beside, list_beside, neither_beside, nobody_beside, number_beside, tells_so}
+use Rattle.office_archives.proofs.Standing.{beyond_answered, beyond_left}
+use Rattle.office_report_data.specs.Told as value
+use Rattle.office_reports.specs.declared.query.About.TheVariants as about
 
 -- ---- what no archives hold
 
@@ -92,7 +96,7 @@ none_put_away list none = record { none = λ e name. ap (λ l. lines_away l name
 
 module _ {S A : Type 0} (g : Ghosts S) (are : List Archive → A → Type 0) (old : Desk S g) (a : A) (empty : (list : List Archive) → are list a → list ≡ []) where
   -- what a number's partner has, whoever that is
-  number_alone : (asked : Query) (code : List ℕ) (n : ℕ) (found : Option (List ℕ)) → IsOfNumber asked code n → ((rows : Rows) (terminal : TerminalState) → TellsOf (setup_content old.setup) terminal rows asked found → partner_called (setup_content old.setup) code ≡ None → found ≡ None)
+  number_alone : (asked : Query) (code : List ℕ) (n : ℕ) (found : Option (List ℕ)) → IsOfNumber asked.about code n → ((rows : Rows) (terminal : TerminalState) (what : Option ReportContent) → TellsAbout (setup_content old.setup) terminal rows asked.about what → partner_called (setup_content old.setup) code ≡ None → option_map (shown asked.view) what ≡ None)
       → DeskTells g old asked found → TellsBeside g are old a asked found
   number_alone asked code n found is nothing tells content es stand = by (partner_called (setup_content old.setup) code) refl
     where
@@ -106,33 +110,56 @@ module _ {S A : Type 0} (g : Ghosts S) (are : List Archive → A → Type 0) (ol
       terminal = without_lists stands.away (own_terminal stands.archived.stays (machine_after content es).terminal)
 
       by : (called : Option ℕ) → partner_called (setup_content old.setup) code ≡ called → TellsTogether content es stand.list stand.stands.archived stand.stands.whole asked found
-      by None e = nobody_beside g are old a asked code n found is (nothing rows terminal (tells.office rows terminal stands.holds) e) (λ other_rows other_terminal holds. e) content es stand
+      by None e =
+          let told = tells.office rows terminal stands.holds in
+          nobody_beside g are old a asked code n found is (told.2 ∙ nothing rows terminal told.0 told.1 e) (λ other_rows other_terminal holds. e) content es stand
       by (Some p) e =
           let closed : last_closed old.closed p ≡ 0 = stands.knows.numbers p ∙ closed_none stand.list stands.archived (empty stand.list stand.these) stands.parts.closed stands.hold p in
           number_beside g are old a asked code n p found is e (ap (λ last. nat_le 1 n && nat_le n last) closed ∙ zero_or_above n) tells content es stand
 
+  -- no archive is told of
+  nothing_beside : (view : View) (told : Option (List ℕ)) (what : Option ReportContent) → AreAsked what → told ≡ option_map (shown view) what → told ≡ shown_beside 0 view what
+  unfolding shown
+  nothing_beside Text told what asks is = is
+  nothing_beside Csv told what asks is = is
+  nothing_beside Page told what asks is = is ∙ sym (no_note (option_map (shown Page) what) (asked_end what asks))
+  nothing_beside Json told None asks is = is
+  nothing_beside Json told (Some (value.container its lists visits)) asks is = is
+  nothing_beside Json told (Some (value.visits its)) asks is = is
+  nothing_beside Json told (Some (value.calls lists)) asks is = is
+  nothing_beside Json told (Some other) asks is = absurd asks
+
   -- what the desk reports, desk and archives report
+  tells_alone : (asked : About) (view : View) (found : Option (List ℕ)) → IsSound g old → DeskTells g old (record { about = asked; view = view }) found → TellsBeside g are old a (record { about = asked; view = view }) found
+  tells_alone (about.Visits container) view found sound told =
+      container_beside g are old a (record { about = about.Visits container; view = view }) found found 0 tt (λ list these. sym (ap length (empty list these))) told (nothing_beside view found)
+  tells_alone (about.Container container) view found sound told =
+      container_beside g are old a (record { about = about.Container container; view = view }) found found 0 tt (λ list these. sym (ap length (empty list these))) told (nothing_beside view found)
+  tells_alone about.Calls view found sound told =
+      calls_beside g are old a view found found 0 (λ list these. (false, none_put_away list (empty list these), refl)) told (nothing_beside view found)
+  tells_alone (about.List call side) view found sound told =
+      list_beside g are old a old (record { about = about.List call side; view = view }) (call_content call) side found (refl, refl) sound (looks_nowhere g old)
+      (λ list content es these stands. away_none list stands.away content es stands.own (empty list these) stands.lists (list_name (call_content call) side)) told
+  tells_alone (about.Work call side) view found sound told =
+      list_beside g are old a old (record { about = about.Work call side; view = view }) (call_content call) side found (refl, refl) sound (looks_nowhere g old)
+      (λ list content es these stands. away_none list stands.away content es stands.own (empty list these) stands.lists (list_name (call_content call) side)) told
+  tells_alone (about.Reply code n) view found sound told =
+      number_alone (record { about = about.Reply code n; view = view }) (string_bytes code) n found (refl, refl)
+      (λ rows terminal what is none. ap (option_map (shown view)) (subst (λ called. TellsReplyOf rows (string_bytes code) n called what) none is)) told
+  tells_alone (about.Contrl code n) view found sound told =
+      number_alone (record { about = about.Contrl code n; view = view }) (string_bytes code) n found (refl, refl)
+      (λ rows terminal what is none. ap (option_map (shown view)) (is ∙ ap (contrl_for_partner rows (string_bytes code) n) none)) told
+  tells_alone (about.Ticket code n) view found sound told =
+      number_alone (record { about = about.Ticket code n; view = view }) (string_bytes code) n found (refl, refl)
+      (λ rows terminal what is none. is view ∙ ap (λ o. option_map (shown view) (ticket_of terminal.visits rows (string_bytes code) n o)) none) told
+  tells_alone (about.Expected container) view found sound told =
+      expected_beside g are old a (record { about = about.Expected container; view = view }) found found 0 tt (λ list these. sym (ap length (empty list these))) told (λ page ended same. same ∙ sym (no_note page ended))
+  tells_alone (about.Find typed) view found sound told = here_beside g are old a (record { about = about.Find typed; view = view }) found tt told
+  tells_alone about.Start view found sound told = here_beside g are old a (record { about = about.Start; view = view }) found tt told
+  tells_alone other view found sound told = neither_beside g are old a (record { about = other; view = view }) found tt told
+
   pub alone_tells : (asked : Query) (found : Option (List ℕ)) → IsSound g old → DeskTells g old asked found → TellsBeside g are old a asked found
-  alone_tells (query.Visits container) found sound told = container_beside g are old a (query.Visits container) found found 0 tt (λ list these. sym (ap length (empty list these))) told refl
-  alone_tells (query.Container container) found sound told = container_beside g are old a (query.Container container) found found 0 tt (λ list these. sym (ap length (empty list these))) told refl
-  alone_tells query.Calls found sound told =
-      calls_beside g are old a found found 0 (λ list these. (false, none_put_away list (empty list these), refl)) told refl
-  alone_tells (query.List call side) found sound told =
-      list_beside g are old a old (query.List call side) (call_content call) side found (refl, refl) sound (looks_nowhere g old)
-      (λ list content es these stands. away_none list stands.away content es stands.own (empty list these) stands.lists (list_name (call_content call) side)) told
-  alone_tells (query.Work call side) found sound told =
-      list_beside g are old a old (query.Work call side) (call_content call) side found (refl, refl) sound (looks_nowhere g old)
-      (λ list content es these stands. away_none list stands.away content es stands.own (empty list these) stands.lists (list_name (call_content call) side)) told
-  alone_tells (query.Reply code n) found sound told =
-      number_alone (query.Reply code n) (string_bytes code) n found (refl, refl)
-      (λ rows terminal is none. subst (λ called. TellsReplyOf rows (string_bytes code) n called found) none is) told
-  alone_tells (query.Contrl code n) found sound told =
-      number_alone (query.Contrl code n) (string_bytes code) n found (refl, refl)
-      (λ rows terminal is none. is ∙ ap (contrl_for_partner rows n) none) told
-  alone_tells (query.Ticket code n) found sound told =
-      number_alone (query.Ticket code n) (string_bytes code) n found (refl, refl)
-      (λ rows terminal is none. is ∙ ap (ticket_of terminal.visits rows (string_bytes code) n) none) told
-  alone_tells other found sound told = neither_beside g are old a other found tt told
+  alone_tells asked found sound told = tells_alone asked.about asked.view found sound told
 
   shows : (look : Look) (found : Option (List ℕ)) → IsSound g old → DeskShows g old look found → ShowsBeside g are old a look found
   shows (report asked) found sound told = alone_tells asked found sound told

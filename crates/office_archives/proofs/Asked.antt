@@ -1,5 +1,7 @@
 -- What an archive tells that is asked as the store that it was.
-use Rattle.std.specs.{Prelude.{codes, decimal, is_some, string_bytes}, Option.option_and_then, Str.bytes_eq}
+use Rattle.std.specs.Prelude.{is_some, string_bytes}
+use Rattle.std.specs.Option.{option_map}
+use Rattle.std.specs.Str.{bytes_eq}
 use Rattle.std.proofs.Common.{◌≡◌, ℕ, ◌+◌, ◌<◌, ◌≤◌, List, [], ◌∷◌, ◌++◌, length, map, Bool, true, false, cond, Option, None, Some, refl, sym, ap, subst, ◌∙◌, arith}
 use Rattle.partner_core.{specs.Deliveries.{first_text, run}, proofs.{Orders.{some_of, used_within_run}, OnceEach.within_replied}}
 use Rattle.terminal_core.specs.{declared.change.Source.Source, Rows.VisitContent, Versions.newest}
@@ -8,16 +10,17 @@ use Rattle.office_admission.proofs.Adding.{content_on, found_low}
 use Rattle.office_replies.specs.Events.{Event}
 use Rattle.office_rows.specs.Rows.{Rows}
 use Rattle.office_tables.specs.Answers.{IsNextOf}
-use Rattle.office_reports.specs.{declared.query.Query.Query, Contrls.contrl_in, Names.line, Tickets.ticket_lines}
+use Rattle.office_reports.specs.declared.query.About.{About}
+use Rattle.office_report_data.specs.Told.{ReportContent, shown}
 use Rattle.office_history.specs.{After.{machine_after, opening_of, taking_in, reply_in, AreAfter}, Cascade.text_in, Laws.HasNoMigration}
 use Rattle.office_history.proofs.Accounted.{delivered_within, text_within}
 use Rattle.office_parts.{specs.{LeftOver.rows_beyond, OwnTerminal.{own_terminal, own_visits}, Parts.{Archived, ArePartsAfter}}, proofs.Takings.visits_same}
 use Rattle.office_parts.{specs.OwnLists.{ListName, rows_without_lists, without_lists}, proofs.LeftOver.told_alike}
 use Rattle.office_parts.proofs.Orders.{body_there, found_beyond, reply_there}
-use Rattle.office_desk.specs.Reports.{contrl_for_partner, partner_called, ticket_if_taken, ticket_of, TellsOf, TellsReply, TellsReplyOf}
+use Rattle.office_desk.specs.Reports.{AreShownAlike, contrl_for_partner, contrl_told, partner_called, ticket_if_taken, ticket_of, TellsAbout, TellsReply, TellsReplyOf}
 use Rattle.office_archives.specs.{Asked.{IsBetween, IsOfNumberBetween, KeepsNumber}, Laws.ArchivesAreAskedAsStores, Visits.visits_by}
-use Rattle.office_archives.proofs.{StayedTold.copy_tells, ClosedTold.next_is_there, Later.{keep_numbers, has_more}, Sources.same_lines}
-use Rattle.office_reports.specs.declared.query.Query.TheVariants as query
+use Rattle.office_archives.proofs.{StayedTold.copy_tells, ClosedTold.next_is_there, Later.{keep_numbers, has_more}, Sources.tickets_alike}
+use Rattle.office_reports.specs.declared.query.About.TheVariants as about
 
 -- ---- the partner of a code
 
@@ -73,12 +76,12 @@ module _ (content : SetupContent) (earlier later : List Event) (none : HasNoMigr
   replied : is_some (reply_in whole p n) ≡ true
   replied = ap is_some (keeps.reply ∙ are.after.replies p n) ∙ within_replied (taking_in newest content earlier) (opening_of (content_after content earlier)) (deliveries_of content earlier) p n low high
 
-  moved : (code : List ℕ) (found : Option (List ℕ)) (text reply : Option (List ℕ)) → is_some reply ≡ true → TellsReply rows code p n text reply found → TellsReply whole code p n text reply found
+  moved : (code : List ℕ) (found : Option ReportContent) (text reply : Option (List ℕ)) → is_some reply ≡ true → TellsReply rows code p n text reply found → TellsReply whole code p n text reply found
   moved code found None reply e told = told
   moved code found (Some text) None e told = cc
   moved code found (Some text) (Some reply) e told = (run (deliveries_of content (earlier ++ later)) p + 1, there, told.2)
 
-  pub reply_told : (code : List ℕ) (found : Option (List ℕ)) → TellsReply rows code p n (text_in rows p n) (reply_in rows p n) found → TellsReply whole code p n (text_in whole p n) (reply_in whole p n) found
+  pub reply_told : (code : List ℕ) (found : Option ReportContent) → TellsReply rows code p n (text_in rows p n) (reply_in rows p n) found → TellsReply whole code p n (text_in whole p n) (reply_in whole p n) found
   reply_told code found told =
       moved code found (text_in whole p n) (reply_in whole p n) replied
       (subst (λ reply. TellsReply rows code p n (text_in whole p n) reply found) reply_same
@@ -90,22 +93,20 @@ module _ (content : SetupContent) (earlier later : List Event) (none : HasNoMigr
   abbrev visits_now : List VisitContent
   visits_now = (machine_after content (earlier ++ later)).terminal.visits
 
-  lines_told : ticket_lines mine visits_then ≡ ticket_lines mine visits_now
-  lines_told =
+  visits_known : visits_by mine visits_then ≡ visits_by mine visits_now
+  visits_known =
       let own_is : rows.visits ≡ visits_then = ap (λ (r : Rows). r.visits) is_own ∙ are.parts.visits ∙ ap (own_visits archived.stays) (visits_same content earlier then are.after) in
-      same_lines mine visits_then
-      ∙ ap (ticket_lines mine) (ap (visits_by mine) (sym own_is) ∙ tells ∙ ap (visits_by mine) (visits_same content (earlier ++ later) whole after))
-      ∙ sym (same_lines mine visits_now)
+      ap (visits_by mine) (sym own_is) ∙ tells ∙ ap (visits_by mine) (visits_same content (earlier ++ later) whole after)
 
-  taken_told : (code : List ℕ) (reply : Option (List ℕ)) → ticket_if_taken visits_then code p n reply ≡ ticket_if_taken visits_now code p n reply
-  taken_told code None = refl
-  taken_told code (Some reply) = ap (λ lines. Some (line (codes "TICKET" ∷ code ∷ decimal n ∷ []) ++ lines)) lines_told
+  taken_told : (code : List ℕ) (reply : Option (List ℕ)) → AreShownAlike (ticket_if_taken visits_then code p n reply) (ticket_if_taken visits_now code p n reply)
+  taken_told code None view = refl
+  taken_told code (Some reply) view = ap Some (tickets_alike mine code visits_then visits_now visits_known view)
 
-  pub ticket_told : (code : List ℕ) → ticket_of visits_then rows code n (Some p) ≡ ticket_of visits_now whole code n (Some p)
-  ticket_told code = ap (ticket_if_taken visits_then code p n) reply_same ∙ taken_told code (reply_in whole p n)
+  pub ticket_told : (code : List ℕ) → AreShownAlike (ticket_of visits_then rows code n (Some p)) (ticket_of visits_now whole code n (Some p))
+  ticket_told code view = ap (λ reply. option_map (shown view) (ticket_if_taken visits_then code p n reply)) reply_same ∙ taken_told code (reply_in whole p n) view
 
-  pub contrl_told : contrl_for_partner rows n (Some p) ≡ contrl_for_partner whole n (Some p)
-  contrl_told = ap (option_and_then contrl_in) reply_same
+  pub contrl_same : (code : List ℕ) → contrl_for_partner rows code n (Some p) ≡ contrl_for_partner whole code n (Some p)
+  contrl_same code = ap (contrl_told code n) reply_same
 
 -- ---- a query
 
@@ -128,26 +129,26 @@ module _ (content : SetupContent) (earlier later : List Event) (none : HasNoMigr
       each p low above high between.0 between.1
       (subst Then (called_then content earlier later code p (is_account content earlier later none archived rows own then whole away is_own are after p n low above high (tells p n between.0 between.1)) e) told)
 
-  asked_then : (asked : Query) (found : Option (List ℕ)) → IsOfNumberBetween now closed_before last asked
-      → TellsOf (content_after content earlier) (without_lists away (own_terminal archived.stays (machine_after content earlier).terminal)) rows asked found → TellsOf now (machine_after content (earlier ++ later)).terminal whole asked found
-  asked_then (query.Reply code n) found between told =
-      by_partner (λ o. TellsReplyOf rows (string_bytes code) n o found) (λ o. TellsReplyOf whole (string_bytes code) n o found) (string_bytes code) n
-      (λ p low above high before reached tell. reply_told content earlier later none archived rows own then whole away is_own are after p n low above high (tells p n before reached) (string_bytes code) found tell)
+  asked_then : (asked : About) (what : Option ReportContent) → IsOfNumberBetween now closed_before last asked
+      → TellsAbout (content_after content earlier) (without_lists away (own_terminal archived.stays (machine_after content earlier).terminal)) rows asked what → TellsAbout now (machine_after content (earlier ++ later)).terminal whole asked what
+  asked_then (about.Reply code n) what between told =
+      by_partner (λ o. TellsReplyOf rows (string_bytes code) n o what) (λ o. TellsReplyOf whole (string_bytes code) n o what) (string_bytes code) n
+      (λ p low above high before reached tell. reply_told content earlier later none archived rows own then whole away is_own are after p n low above high (tells p n before reached) (string_bytes code) what tell)
       (partner_called now (string_bytes code)) refl between told
-  asked_then (query.Contrl code n) found between told =
-      by_partner (λ o. found ≡ contrl_for_partner rows n o) (λ o. found ≡ contrl_for_partner whole n o) (string_bytes code) n
-      (λ p low above high before reached tell. tell ∙ contrl_told content earlier later none archived rows own then whole away is_own are after p n low above high (tells p n before reached))
+  asked_then (about.Contrl code n) what between told =
+      by_partner (λ o. what ≡ contrl_for_partner rows (string_bytes code) n o) (λ o. what ≡ contrl_for_partner whole (string_bytes code) n o) (string_bytes code) n
+      (λ p low above high before reached tell. tell ∙ contrl_same content earlier later none archived rows own then whole away is_own are after p n low above high (tells p n before reached) (string_bytes code))
       (partner_called now (string_bytes code)) refl between told
-  asked_then (query.Ticket code n) found between told =
-      by_partner (λ o. found ≡ ticket_of (own_visits archived.stays (machine_after content earlier).terminal.visits) rows (string_bytes code) n o) (λ o. found ≡ ticket_of (machine_after content (earlier ++ later)).terminal.visits whole (string_bytes code) n o) (string_bytes code) n
-      (λ p low above high before reached tell. tell ∙ ticket_told content earlier later none archived rows own then whole away is_own are after p n low above high (tells p n before reached) (string_bytes code))
+  asked_then (about.Ticket code n) what between told =
+      by_partner (λ o. AreShownAlike what (ticket_of (own_visits archived.stays (machine_after content earlier).terminal.visits) rows (string_bytes code) n o)) (λ o. AreShownAlike what (ticket_of (machine_after content (earlier ++ later)).terminal.visits whole (string_bytes code) n o)) (string_bytes code) n
+      (λ p low above high before reached tell view. tell view ∙ ticket_told content earlier later none archived rows own then whole away is_own are after p n low above high (tells p n before reached) (string_bytes code) view)
       (partner_called now (string_bytes code)) refl between told
-  asked_then other found between told = absurd between
+  asked_then other what between told = absurd between
 
 pub asked_as_stores : ArchivesAreAskedAsStores
-asked_as_stores content es closed_before archive whole asked found after copy between told =
+asked_as_stores content es closed_before archive whole asked what after copy between told =
     let day = copy.at_its_day in
-    subst (λ l. TellsOf (content_after content l) (machine_after content l).terminal whole asked found) (sym day)
+    subst (λ l. TellsAbout (content_after content l) (machine_after content l).terminal whole asked what) (sym day)
     (asked_then content copy.earlier copy.later copy.unmigrated copy.archived closed_before archive.last_closed archive.rows copy.own copy.whole whole copy.away copy.is_own copy.parts (subst (λ l. AreAfter content l whole) day after) copy.closed copy.taken
     (λ p n before reached. copy_tells content es closed_before archive whole p n after copy before reached)
-    asked found (subst (λ l. IsOfNumberBetween (content_after content l) closed_before archive.last_closed asked) day between) told)
+    asked what (subst (λ l. IsOfNumberBetween (content_after content l) closed_before archive.last_closed asked) day between) told)

@@ -1,6 +1,6 @@
 -- Lists that are brought back into a store.
-use Rattle.std.specs.{Prelude.{◌&&◌, not, IsTrue, IsPermutation, String, string_bytes}, declared.alloc.Global.Global}
-use Rattle.std.proofs.Common.{◌≡◌, inl, inr, ℕ, List, [], ◌∷◌, ◌++◌, Bool, true, false, Option, None, Some, Result, Ok, Err, OnOk, refl, sym, ap, subst, ◌∙◌, ◌-◌}
+use Rattle.std.specs.Prelude.{◌&&◌, not, option_map, IsTrue, IsPermutation}
+use Rattle.std.proofs.Common.{◌≡◌, inl, inr, ℕ, List, [], ◌∷◌, ◌++◌, Bool, true, false, Option, None, Some, Result, Ok, Err, OnOk, refl, sym, ap, subst, ◌∙◌}
 use Rattle.sqlite.specs.{Effect.Database, Held.state, State.HasCleanDisk, Tree.Trees}
 use Rattle.sqlite_trees.specs.declared.store.Store.{Ghosts}
 use Rattle.edi_messages.specs.{Owned.call_content, Purposes.CallContent}
@@ -11,18 +11,17 @@ use Rattle.office_rows.specs.{Opening.with_lines, Rows.{ListingContent, Rows}, S
 use Rattle.office_admission.specs.Setups.{SetupContent, setup_content}
 use Rattle.office_history.specs.After.{AreKeptOnce, content_after, machine_after}
 use Rattle.office_tables.specs.{declared.table_fault.TableFault.TableFault, Writing.{Commits, WritesWhole}}
-use Rattle.office_reports.specs.declared.query.Query.{Query}
-use Rattle.office_desk.specs.{Beside.IsOrNone, Calls.OnlyLooks, Desks.IsSound, Offices.HoldsOffice, Reports.{DeskTells, TellsOf, partner_called}}
+use Rattle.office_reports.specs.{declared.query.About.About, declared.query.Query.Query}
+use Rattle.office_report_data.specs.Told.{ReportContent, shown}
+use Rattle.office_desk.specs.{Beside.IsOrNone, Calls.OnlyLooks, Desks.IsSound, Offices.HoldsOffice, Reports.{DeskTells, TellsAbout, TellsOf}}
 use Rattle.office_desk.{specs.declared.desk.Desk.Desk, proofs.DeliverLemmas.{office_once, office_with}}
 use Rattle.office_parts.specs.{Archives.Archive, OwnTerminal.own_terminal, Away.{AreAway, lines_away}, Bringing.{BringsBack, all_but, is_list}, Naming.AreHere}
 use Rattle.office_parts.{specs.OwnLists.{ListName, list_name, rows_without_lists, without_lists}, proofs.AwayLemmas.{came_back, none_away, others_stay}}
 use Rattle.office_parts.proofs.{BringingLemmas.brought_back, Writings.own_office_without}
-use Rattle.office_archives.specs.{Bringing.{BringsTogether, StandsWith, lists_back}, ListsAway.{AsksList, FindsIfAway}, Keeping.IsReportIn}
-use Rattle.office_archives.specs.{Standing.{IsOwnWithRest, KnowsClosed, StandsBeside}, Together.{IsBesideAfter, LeavesBeside, StandTogether, TellsOfOne}}
-use Rattle.office_archives.specs.Telling.{IsOfContainer, IsOfNumber, IsPlace, TellsAsStore, TellsOwnNumber, with_archives}
+use Rattle.office_archives.specs.{Bringing.{BringsTogether, StandsWith, lists_back}, ListsAway.{AsksList, FindsIfAway}}
+use Rattle.office_archives.specs.{Standing.{IsOwnWithRest, KnowsClosed, StandsBeside}, Together.{IsBesideAfter, LeavesBeside}}
 use Rattle.office_archives.proofs.{Filled.{no_list, some_list, of_whole}, Together.{looked_stands, rows_left}}
-use Rattle.box6346.specs.declared.box_number.BoxNumber.{BoxNumber}
-use Rattle.office_reports.specs.declared.query.Query.TheVariants as query
+use Rattle.office_reports.specs.declared.query.About.TheVariants as about
 
 -- what was put away as these lines is a list of them
 pub kept_so : (archives : List Archive) (list : ListName) (kept back : List ListingContent) (lines : List ListingContent) → lines_away archives list ≡ Some kept → lines_away archives list ≡ Some back → IsPermutation lines kept → IsPermutation lines back
@@ -121,6 +120,16 @@ module _ {S : Type 0} (g : Ghosts S) (archives : List Archive) (content : SetupC
 
 -- ---- which lists are away
 
+-- something is told where something is shown, and nothing where nothing is
+
+value_shown : {A B : Type 0} (f : A → B) (o : Option A) (b : B) → option_map f o ≡ Some b → (a : A) × (o ≡ Some a)
+value_shown f None b is = absurd cc
+value_shown f (Some a) b is = (a, refl)
+
+nothing_shown : {A B : Type 0} (f : A → B) (o : Option A) → option_map f o ≡ None → o ≡ None
+nothing_shown f None is = refl
+nothing_shown f (Some a) is = cc
+
 module _ {S : Type 0} (g : Ghosts S) (archives : List Archive) (content : SetupContent) (es : List Event) (desk : Desk S g) (stands : StandsBeside g archives content es desk) where
   abbrev mine : TerminalState
   mine = without_lists stands.away (own_terminal stands.archived.stays (machine_after content es).terminal)
@@ -137,25 +146,30 @@ module _ {S : Type 0} (g : Ghosts S) (archives : List Archive) (content : SetupC
       by true e = let never : None ≡ Some (stands.lists.kept name e).kept = sym none ∙ (stands.lists.kept name e).are in absurd cc
 
   -- one that has a line in the store is not
-  pub line_there : (asked : Query) (call : CallContent) (side : Side) (text : List ℕ) → AsksList asked call side → DeskTells g desk asked (Some text) → stands.away (list_name call side) ≡ false
-  line_there (query.List asked on) call side text is tells =
+  line_here : (asked : About) (call : CallContent) (side : Side) (what : Option ReportContent) (one : ReportContent) → what ≡ Some one → AsksList asked call side
+      → TellsAbout (content_after content es) mine (rows_without_lists stands.away stands.rows) asked what → stands.away (list_name call side) ≡ false
+  line_here (about.List asked on) call side what one some is tells =
       subst (λ (q : CallContent × Side). stands.away (list_name q.0 q.1) ≡ false) (λ i. (is.0 i, is.1 i)) (by (stands.away (list_name (call_content asked) on)) refl)
     where
       by : (away : Bool) → stands.away (list_name (call_content asked) on) ≡ away → away ≡ false
       by false e = refl
       by true e =
-          let has = some_list stands.away (content_after content es) (own_terminal stands.archived.stays (machine_after content es).terminal) stands.rows asked on (Some text) text refl (told_left (query.List asked on) (Some text) tells) in
+          let has = some_list stands.away (content_after content es) (own_terminal stands.archived.stays (machine_after content es).terminal) stands.rows asked on what one some tells in
           let none = none_away stands.away (own_terminal stands.archived.stays (machine_after content es).terminal) (call_content asked) on has.container e in
           let never : None ≡ Some has.line = sym none ∙ has.has in
           absurd cc
-  line_there other call side text is tells = absurd is
+  line_here other call side what one some is tells = absurd is
 
-  pub some_there : (asked : Query) (call : CallContent) (side : Side) (found : Option (List ℕ)) → (text : List ℕ) × (found ≡ Some text) → AsksList asked call side → DeskTells g desk asked found → stands.away (list_name call side) ≡ false
-  some_there asked call side found some is tells = line_there asked call side some.0 is (subst (DeskTells g desk asked) some.1 tells)
+  pub some_there : (asked : Query) (call : CallContent) (side : Side) (found : Option (List ℕ)) → (text : List ℕ) × (found ≡ Some text) → AsksList asked.about call side → DeskTells g desk asked found → stands.away (list_name call side) ≡ false
+  some_there asked call side found some is tells =
+      let told = told_left asked found tells in
+      let value_there = value_shown (shown asked.view) told.0 some.0 (sym told.2 ∙ some.1) in
+      line_here asked.about call side told.0 value_there.0 value_there.1 is told.1
 
   -- one that was put away and has none is
-  pub line_gone : (asked : Query) (call : CallContent) (side : Side) (back : List ListingContent) → AsksList asked call side → DeskTells g desk asked None → lines_away archives (list_name call side) ≡ Some back → stands.away (list_name call side) ≡ true
-  line_gone (query.List asked on) call side back is tells put_away =
+  gone_here : (asked : About) (call : CallContent) (side : Side) (back : List ListingContent) (what : Option ReportContent) → what ≡ None → AsksList asked call side
+      → TellsAbout (content_after content es) mine (rows_without_lists stands.away stands.rows) asked what → lines_away archives (list_name call side) ≡ Some back → stands.away (list_name call side) ≡ true
+  gone_here (about.List asked on) call side back what nothing is tells put_away =
       subst (λ (q : CallContent × Side). stands.away (list_name q.0 q.1) ≡ true) (λ i. (is.0 i, is.1 i))
       (by (stands.away (list_name (call_content asked) on)) refl)
     where
@@ -166,10 +180,15 @@ module _ {S : Type 0} (g : Ghosts S) (archives : List Archive) (content : SetupC
       by true e = refl
       by false e =
           let has = came_back content es archives stands.away stands.archived.stays stands.own (call_content asked) on back stands.lists put_away_here e in
-          let none = no_list stands.away (content_after content es) (own_terminal stands.archived.stays (machine_after content es).terminal) stands.rows asked on None refl (told_left (query.List asked on) None tells) has.container in
+          let none = no_list stands.away (content_after content es) (own_terminal stands.archived.stays (machine_after content es).terminal) stands.rows asked on what nothing tells has.container in
           let never : None ≡ Some has.line = sym none ∙ has.has in
           absurd cc
-  line_gone other call side back is tells put_away = absurd is
+  gone_here other call side back what nothing is tells put_away = absurd is
+
+  pub line_gone : (asked : Query) (call : CallContent) (side : Side) (back : List ListingContent) → AsksList asked.about call side → DeskTells g desk asked None → lines_away archives (list_name call side) ≡ Some back → stands.away (list_name call side) ≡ true
+  line_gone asked call side back is tells put_away =
+      let told = told_left asked None tells in
+      gone_here asked.about call side back told.0 (nothing_shown (shown asked.view) told.0 (sym told.2)) is told.1 put_away
 
 -- ---- a desk that was looked at
 
@@ -305,48 +324,3 @@ brings_failed g are old new a names others met result fault is brings = subst (�
 pub none_there : (away : ListName → Bool) (names : List ListName) → ((name : ListName) → away name ≡ false) → AreHere away names
 none_there away [] none = tt
 none_there away (name ∷ names) none = (none name, none_there away names none)
-
--- ==== OfArchive: What one archive of a store tells, as the store that it was.
-
-pub container_as : (content : SetupContent) (list : List Archive) (place : ℕ) (asked : Query) (own found : Option (List ℕ)) → IsOfContainer asked → IsReportIn list place asked own → found ≡ with_archives (place - 1) own → TellsAsStore content list place asked found
-container_as content list place (query.Visits container) own found is told same = (own, told, same)
-container_as content list place (query.Container container) own found is told same = (own, told, same)
-container_as content list place other own found is told same = absurd is
-
--- the code and the number are those of the query, and this is who has the code
-pub number_as : (content : SetupContent) (list : List Archive) (place : ℕ) (asked : Query) (code : List ℕ) (n : ℕ) (called : Option ℕ) (found : Option (List ℕ)) → IsOfNumber asked code n → partner_called content code ≡ called → TellsOwnNumber list place asked code n called found
-    → TellsAsStore content list place asked found
-number_as content list place (query.Reply partner k) code n called found is who told =
-    let own = query.Reply partner k in
-    subst (λ p. TellsOwnNumber list place own (string_bytes partner) k p found) (sym (ap (partner_called content) is.0 ∙ who))
-    (subst (λ m. TellsOwnNumber list place own (string_bytes partner) m called found) (sym is.1) (subst (λ c. TellsOwnNumber list place own c n called found) (sym is.0) told))
-number_as content list place (query.Contrl partner k) code n called found is who told =
-    let own = query.Contrl partner k in
-    subst (λ p. TellsOwnNumber list place own (string_bytes partner) k p found) (sym (ap (partner_called content) is.0 ∙ who))
-    (subst (λ m. TellsOwnNumber list place own (string_bytes partner) m called found) (sym is.1) (subst (λ c. TellsOwnNumber list place own c n called found) (sym is.0) told))
-number_as content list place (query.Ticket partner k) code n called found is who told =
-    let own = query.Ticket partner k in
-    subst (λ p. TellsOwnNumber list place own (string_bytes partner) k p found) (sym (ap (partner_called content) is.0 ∙ who))
-    (subst (λ m. TellsOwnNumber list place own (string_bytes partner) m called found) (sym is.1) (subst (λ c. TellsOwnNumber list place own c n called found) (sym is.0) told))
-number_as content list place other code n called found is who told = absurd is
-
-pub neither_as : (content : SetupContent) (list : List Archive) (place : ℕ) (asked : Query) (found : Option (List ℕ)) → ((container : BoxNumber) → asked ≡ query.Visits container → ⊥) → ((container : BoxNumber) → asked ≡ query.Container container → ⊥)
-    → (asked ≡ query.Calls → ⊥)
-    → ((code : String Global) (number : ℕ) → asked ≡ query.Reply code number → ⊥) → ((code : String Global) (number : ℕ) → asked ≡ query.Contrl code number → ⊥) → ((code : String Global) (number : ℕ) → asked ≡ query.Ticket code number → ⊥)
-    → IsReportIn list place asked found → TellsAsStore content list place asked found
-neither_as content list place (query.Visits container) found visits there calls reply contrl ticket told = absurd (visits container refl)
-neither_as content list place (query.Container container) found visits there calls reply contrl ticket told = absurd (there container refl)
-neither_as content list place query.Calls found visits there calls reply contrl ticket told = absurd (calls refl)
-neither_as content list place (query.Reply code n) found visits there calls reply contrl ticket told = absurd (reply code n refl)
-neither_as content list place (query.Contrl code n) found visits there calls reply contrl ticket told = absurd (contrl code n refl)
-neither_as content list place (query.Ticket code n) found visits there calls reply contrl ticket told = absurd (ticket code n refl)
-neither_as content list place other found visits there calls reply contrl ticket told = told
-
-module _ {S A : Type 0} (g : Ghosts S) (are : List Archive → A → Type 0) (desk : Desk S g) (a : A) where
-  -- there is one at that place, and it tells so
-  pub told_there : (place : ℕ) (asked : Query) (found : Option (List ℕ)) → ((list : List Archive) → are list a → IsPlace list place)
-      → ((content : SetupContent) (es : List Event) (stand : StandTogether g are content es desk a) → TellsAsStore (content_after content es) stand.list place asked found) → TellsOfOne g are desk a place asked found
-  told_there place asked found there tells content es stand = record {
-    tells = λ is. tells content es stand;
-    nothing = λ none. absurd (none (there stand.list stand.these));
-  }

@@ -1,22 +1,23 @@
 -- Reports of numbers that are closed, by their archives and by the whole.
-use Rattle.std.specs.{Prelude.{◌==◌, ◌++◌, Contains, filter, find, string_bytes, codes, decimal}, Option.{option_map, option_and_then}}
+use Rattle.std.specs.{Prelude.{◌==◌, Contains, filter, find, string_bytes}, Option.{option_map, option_and_then}}
 use Rattle.std.proofs.Common.{◌≡◌, ℕ, ◌+◌, ◌<◌, ◌≤◌, inl, inr, List, [], ◌∷◌, length, Bool, true, false, cond, Option, None, Some, is_some, refl, sym, ap, subst, ◌∙◌, arith}
 use Rattle.std.proofs.lemmas.Bool.{cases_lt, eq-eqb, eqb-true}
 use Rattle.edi_messages.specs.declared.codes.PartnerKind.{PartnerKind}
 use Rattle.terminal_core.specs.{declared.change.Source.Source, Rows.VisitContent}
 use Rattle.office_admission.specs.{Deliveries.deliveries_of, Setups.SetupContent}
-use Rattle.office_replies.specs.{Bodies.answer_text, Events.Event}
+use Rattle.office_replies.specs.Events.{Event}
 use Rattle.office_rows.specs.{Rows.{Interchange, Partner, Rows}, Effects.is_pair}
 use Rattle.office_tables.specs.Answers.{has_id, IsNextOf}
-use Rattle.office_reports.specs.{Contrls.contrl_in, Names.line, Tickets.ticket_lines}
+use Rattle.office_report_data.specs.Told.{shown}
 use Rattle.office_history.{specs.{After.{accounts_from, content_after, machine_after, reply_in, AreAfter}, Cascade.text_in}, proofs.Kept.head_in}
 use Rattle.office_history.proofs.Accounted.{text_within}
 use Rattle.partner_core.specs.Deliveries.{run}
 use Rattle.office_parts.{specs.{Archives.{Archive, archive_of, reply_by, Hold}, Parts.{Archived, ArePartsAfter}}, proofs.{Takings.visits_same, Splits.some_is}}
 use Rattle.office_parts.proofs.Orders.{body_there, found_within, reply_there, there_if_replied}
-use Rattle.office_desk.specs.Reports.{reply_text, ticket_if_taken, ticket_of, contrl_for_partner, TellsReply, TellsReplyOf}
+use Rattle.office_desk.specs.Reports.{AreShownAlike, answered, contrl_for_partner, contrl_told, ticket_if_taken, ticket_of, TellsReply, TellsReplyOf}
 use Rattle.office_archives.specs.{Closed.{closed_reply, closed_contrl, closed_ticket}, Copies.AreCopies, Laws.{ArchivesTellReplies, ArchivesTellTickets}}
-use Rattle.office_archives.proofs.{StayedTold.archives_tell_visits, Sources.same_lines}
+use Rattle.office_archives.{specs.Visits.visits_by, proofs.{StayedTold.archives_tell_visits, Sources.tickets_alike}}
+use Rattle.office_report_data.specs.Told as value
 
 -- ---- the number that is next
 
@@ -73,18 +74,17 @@ module _ (content : SetupContent) (es : List Event) (archives : List Archive) (a
   told_reply : (code : List ℕ) → TellsReply whole code p n (text_in whole p n) (reply_in whole p n) (closed_reply archives code p n)
   told_reply code =
       let within = text_within content es whole p n (kept.0).body are.after text_kept in
-      let told : closed_reply archives code p n ≡ Some (answer_text (codes "repeat") n code replied.0) =
-      ap (option_map (λ reply. answer_text (codes "repeat") n code reply)) (reply_whole ∙ replied.1) in
+      let told : closed_reply archives code p n ≡ Some (value.taken code n replied.0) = ap (option_map (value.taken code n)) (reply_whole ∙ replied.1) in
       subst (λ o. TellsReply whole code p n o (reply_in whole p n) (closed_reply archives code p n)) (sym text_kept)
-      (run (deliveries_of content es) p + 1, next_is_there content es whole p are.after within.0 within.1, told ∙ ap (λ o. Some (reply_text (run (deliveries_of content es) p + 1) code n o)) (sym replied.1))
+      (run (deliveries_of content es) p + 1, next_is_there content es whole p are.after within.0 within.1, told ∙ ap (λ o. Some (answered code n (run (deliveries_of content es) p + 1) o)) (sym replied.1))
 
-  told_contrl : contrl_for_partner whole n (Some p) ≡ closed_contrl archives p n
-  told_contrl = ap (option_and_then contrl_in) (sym reply_whole)
+  told_contrl : (code : List ℕ) → contrl_for_partner whole code n (Some p) ≡ closed_contrl archives code p n
+  told_contrl code = ap (contrl_told code n) (sym reply_whole)
 
 pub closed_replies : ArchivesTellReplies
 closed_replies content es archives archived own whole code p n are hold called low high = record {
   reply = subst (λ o. TellsReplyOf whole (string_bytes code) n o (closed_reply archives (string_bytes code) p n)) (sym called) (told_reply content es archives archived own whole p n are hold low high (string_bytes code));
-  contrl = sym (ap (contrl_for_partner whole n) called ∙ told_contrl content es archives archived own whole p n are hold low high);
+  contrl = sym (ap (contrl_for_partner whole (string_bytes code) n) called ∙ told_contrl content es archives archived own whole p n are hold low high (string_bytes code));
 }
 
 -- ---- its ticket
@@ -97,30 +97,27 @@ module _ (content : SetupContent) (es : List Event) (archives : List Archive) (a
   abbrev state_visits : List VisitContent
   state_visits = (machine_after content es).terminal.visits
 
-  lines_same : (archive : Archive) → archive_of archives p n ≡ Some archive → ticket_lines mine archive.rows.visits ≡ ticket_lines mine state_visits
-  lines_same archive found =
-      same_lines mine archive.rows.visits
-      ∙ ap (ticket_lines mine) (archives_tell_visits content es archives archive whole p n are.after copies low found)
-      ∙ sym (same_lines mine whole.visits)
-      ∙ ap (ticket_lines mine) (visits_same content es whole are.after)
+  visits_known : (archive : Archive) → archive_of archives p n ≡ Some archive → visits_by mine archive.rows.visits ≡ visits_by mine state_visits
+  visits_known archive found =
+      archives_tell_visits content es archives archive whole p n are.after copies low found ∙ ap (visits_by mine) (visits_same content es whole are.after)
 
   by_archive : (o : Option Archive) → archive_of archives p n ≡ o
-      → option_and_then (λ (archive : Archive). ticket_of archive.rows.visits archive.rows code n (Some p)) o ≡ ticket_of state_visits whole code n (Some p)
-  by_archive None found =
+      → AreShownAlike (option_and_then (λ (archive : Archive). ticket_of archive.rows.visits archive.rows code n (Some p)) o) (ticket_of state_visits whole code n (Some p))
+  by_archive None found view =
       let none : reply_in whole p n ≡ None = sym (reply_whole content es archives archived own whole p n are hold low high) ∙ ap (option_and_then (λ (archive : Archive). reply_in archive.rows p n)) found in
-      sym (ap (ticket_if_taken state_visits code p n) none)
-  by_archive (Some archive) found =
+      sym (ap (λ reply. option_map (shown view) (ticket_if_taken state_visits code p n reply)) none)
+  by_archive (Some archive) found view =
       let same : reply_in archive.rows p n ≡ reply_in whole p n = sym (ap (option_and_then (λ (archive : Archive). reply_in archive.rows p n)) found) ∙ reply_whole content es archives archived own whole p n are hold low high in
-      ap (ticket_if_taken archive.rows.visits code p n) same ∙ by_reply (reply_in whole p n)
+      ap (λ reply. option_map (shown view) (ticket_if_taken archive.rows.visits code p n reply)) same ∙ by_reply (reply_in whole p n)
     where
-      by_reply : (reply : Option (List ℕ)) → ticket_if_taken archive.rows.visits code p n reply ≡ ticket_if_taken state_visits code p n reply
+      by_reply : (reply : Option (List ℕ)) → option_map (shown view) (ticket_if_taken archive.rows.visits code p n reply) ≡ option_map (shown view) (ticket_if_taken state_visits code p n reply)
       by_reply None = refl
-      by_reply (Some reply) = ap (λ lines. Some (line (codes "TICKET" ∷ code ∷ decimal n ∷ []) ++ lines)) (lines_same archive found)
+      by_reply (Some reply) = ap Some (tickets_alike mine code archive.rows.visits state_visits (visits_known archive found) view)
 
-  pub told_ticket : closed_ticket archives code p n ≡ ticket_of state_visits whole code n (Some p)
+  pub told_ticket : AreShownAlike (closed_ticket archives code p n) (ticket_of state_visits whole code n (Some p))
   told_ticket = by_archive (archive_of archives p n) refl
 
 pub closed_tickets : ArchivesTellTickets
-closed_tickets content es archives archived own whole code p n are hold copies called low high =
-    told_ticket content es archives archived own whole (string_bytes code) p n are hold copies low high
-    ∙ sym (ap (ticket_of (machine_after content es).terminal.visits whole (string_bytes code) n) called)
+closed_tickets content es archives archived own whole code p n are hold copies called low high view =
+    told_ticket content es archives archived own whole (string_bytes code) p n are hold copies low high view
+    ∙ sym (ap (λ o. option_map (shown view) (ticket_of (machine_after content es).terminal.visits whole (string_bytes code) n o)) called)

@@ -1,5 +1,5 @@
 -- What a store tells from which lists are away, told with all lists.
-use Rattle.std.specs.{Prelude.{◌==◌, filter, nat_le, not, Contains, string_bytes, String}, List.flat_map, Str.bytes_eq, Cmp.Lexicographic.bytes_decides}
+use Rattle.std.specs.{Prelude.{◌==◌, filter, nat_le, not, Contains, string_bytes, String}, Str.bytes_eq, Cmp.Lexicographic.bytes_decides}
 use Rattle.std.{specs.{Option.{option_map, option_and_then}, declared.alloc.Global.Global}, proofs.{lemmas.Bool.leb-true, lemmas.List.Elements.filter-append}}
 use Rattle.std.proofs.Common.{◌≡◌, ℕ, ◌+◌, ◌<◌, ◌≤◌, List, [], ◌∷◌, ◌++◌, map, Bool, true, false, cond, Option, Some, refl, sym, ap, subst, ◌∙◌, arith, zero, None, is_some}
 use Rattle.std.proofs.lemmas.Option.{same_Some}
@@ -21,10 +21,11 @@ use Rattle.office_archives.specs.{Answering.AnswersClosed, Opening.{OpenedStandB
 use Rattle.box6346.specs.{declared.box_number.BoxNumber.BoxNumber, declared.slot.Slot.Slot}
 use Rattle.edi_messages.specs.{Owned.call_content, Purposes.CallContent, declared.call.Call.Call, declared.codes.PartnerKind.PartnerKind, Codes.table_texts}
 use Rattle.edi_messages.specs.CodeText.{table_fault}
-use Rattle.office_reports.specs.{declared.query.Query.Query, Listed.AreListed, Lists.{list_found, HasLine as HasContent}, Yard.{StandsAt, slot_in}}
-use Rattle.office_reports.specs.{declared.yard.Standing.Standing, Containers.{blocker_in, container_head, here_line, report_by}, Partners.PartnerContent}
-use Rattle.office_reports.specs.{OpenLines.{is_open_for, open_line, open_lines_text}, Work.work_found}
-use Rattle.office_desk.specs.Reports.{AreLookedUp, IsLookedUp, TellsNext, TellsOf, TellsPartner, TellsReply, TellsReplyOf, contrl_for_partner, partner_called, ticket_of}
+use Rattle.office_reports.specs.{declared.query.About.About, declared.query.Query.Query, Listed.AreListed, Lists.{list_by, HasLine as HasContent}, Work.work_by}
+use Rattle.office_reports.specs.{Yard.{StandsAt, slot_in}, declared.yard.Standing.Standing, Containers.{blocker_in, by_visit, container_of, found_by, stay_by}}
+use Rattle.office_reports.specs.{Visits.visits_of, Passages.arrival_by, OpenLines.{is_open_for, open_lines}, Partners.PartnerContent}
+use Rattle.office_report_data.specs.Told.{ReportContent, shown}
+use Rattle.office_desk.specs.Reports.{AreLookedUp, IsLookedUp, container_by, TellsAbout, TellsNext, TellsOf, TellsPartner, TellsReply, TellsReplyOf, contrl_for_partner, partner_called, ticket_of}
 use Rattle.office_desk.{specs.{Answers.answer_by_model, Offices.DeskHolds, declared.desk.Desk.Desk}, proofs.OwnNumbers.answers_alike}
 use Rattle.office_desk.proofs.DeliverLemmas.{own_once, shown_by_own}
 use Rattle.edi_syntax.specs.Interchange.{interchange_of}
@@ -34,7 +35,8 @@ use Rattle.office_tables.{specs.{Answers.{IsKept, RepliesAs}, declared.interchan
 use Rattle.sqlite.specs.{Effect.Database, Held.state}
 use Rattle.sqlite_trees.specs.declared.store.Store.{Ghosts}
 use Rattle.office_loading.specs.Closed.{ClosedContent, closed_content}
-use Rattle.office_reports.specs.declared.query.Query.TheVariants as query
+use Rattle.office_report_data.specs.Told as value
+use Rattle.office_reports.specs.declared.query.About.TheVariants as about
 
 -- ==== Resting: Closed interchanges that still stand in a store, while others are written beyond them.
 
@@ -182,7 +184,7 @@ module _ (away : ListName → Bool) (now : SetupContent) (state : TerminalState)
   stands_here : (text : List ℕ) (standing : Standing) → StandsAt state text standing → StandsAt mine text standing
   stands_here text standing at = record { visit = at.visit; is_open = at.is_open; is_shown = at.is_shown; stands = at.stands; named = at.named }
 
-  yard_listed : (yard : List (List ℕ × Standing)) → AreListed (StandsAt mine) yard → AreListed (StandsAt state) yard
+  pub yard_listed : (yard : List (List ℕ × Standing)) → AreListed (StandsAt mine) yard → AreListed (StandsAt state) yard
   yard_listed yard listed = record {
     sorted = listed.sorted;
     each = λ text standing at. listed.each text standing (stands_here text standing at);
@@ -192,116 +194,130 @@ module _ (away : ListName → Bool) (now : SetupContent) (state : TerminalState)
   looked_up : (id : ℕ) (account : List ℕ × PartnerKind) (partner : PartnerContent) → IsLookedUp own id account partner → IsLookedUp rows id account partner
   looked_up id account partner is = record { code = is.code; kind = is.kind; next = is.next; waiting = is.waiting }
 
-  all_looked_up : (id : ℕ) (accounts : List (List ℕ × PartnerKind)) (partners : List PartnerContent) → AreLookedUp own id accounts partners → AreLookedUp rows id accounts partners
+  pub all_looked_up : (id : ℕ) (accounts : List (List ℕ × PartnerKind)) (partners : List PartnerContent) → AreLookedUp own id accounts partners → AreLookedUp rows id accounts partners
   all_looked_up id [] [] all = tt
   all_looked_up id [] (partner ∷ partners) all = absurd all
   all_looked_up id (account ∷ accounts) [] all = absurd all
   all_looked_up id (account ∷ accounts) (partner ∷ partners) all = (looked_up id account partner all.0, all_looked_up (id + 1) accounts partners all.1)
 
-  partner_filled : (accounts : List (List ℕ × PartnerKind)) (id : Option ℕ) (found : Option (List ℕ)) → TellsPartner own accounts id found → TellsPartner rows accounts id found
-  partner_filled accounts None found told = told
-  partner_filled accounts (Some id) found told = (told.0, told.1, (told.2.0, looked_up id told.0 told.2.0 told.2.1, told.2.2))
+  partner_filled : (accounts : List (List ℕ × PartnerKind)) (id : Option ℕ) (what : Option ReportContent) → TellsPartner own accounts id what → TellsPartner rows accounts id what
+  partner_filled accounts None what told = told
+  partner_filled accounts (Some id) what told = (told.0, told.1, (told.2.0, looked_up id told.0 told.2.0 told.2.1, told.2.2))
 
   next_filled : (id : Option ℕ) (found : Option (List ℕ)) → TellsNext own id found → TellsNext rows id found
   next_filled None found told = told
   next_filled (Some id) found told = told
 
-  pub filled_neither : (asked : Query) (found : Option (List ℕ)) → IsOfNeither asked → TellsOf now mine own asked found → TellsOf now state rows asked found
-  filled_neither query.Yard found is told = (told.0, told.1, record { yard = told.2.yard; listed = yard_listed told.2.yard told.2.listed; is = told.2.is })
-  filled_neither query.YardTable found is told = (told.0, told.1, record { yard = told.2.yard; listed = yard_listed told.2.yard told.2.listed; is = told.2.is })
-  filled_neither query.Picture found is told = (told.0, told.1, record { yard = told.2.yard; listed = yard_listed told.2.yard told.2.listed; is = told.2.is })
-  filled_neither query.Blocks found is told = (told.0, told.1, record { yard = told.2.yard; listed = yard_listed told.2.yard told.2.listed; is = told.2.is })
-  filled_neither (query.Next code) found is told = next_filled (partner_called now (string_bytes code)) found told
-  filled_neither query.Partners found is told = (told.0, all_looked_up 1 now.partners told.0 told.1, told.2)
-  filled_neither (query.Partner code) found is told = partner_filled now.partners (partner_called now (string_bytes code)) found told
-  filled_neither query.Health found is told = told
-  filled_neither query.Metrics found is told = (told.0, all_looked_up 1 now.partners told.0 told.1, told.2)
-  filled_neither other found is told = absurd is
+  neither_told : (asked : About) (what : Option ReportContent) → IsOfNeither asked → TellsAbout now mine own asked what → TellsAbout now state rows asked what
+  neither_told about.Yard what is told = (told.0, yard_listed told.0 told.1, told.2)
+  neither_told about.Picture what is told =
+      (told.0, told.1, record { yard = told.2.yard; listed = yard_listed told.2.yard told.2.listed; is = told.2.is })
+  neither_told (about.Block letter) what is told = (told.0, yard_listed told.0 told.1, told.2)
+  neither_told about.Blocks what is told = (told.0, record { yard = told.1.yard; listed = yard_listed told.1.yard told.1.listed; is = told.1.is }, told.2)
+  neither_told (about.Next code) what is told = (told.0, next_filled (partner_called now (string_bytes code)) told.0 told.1, told.2)
+  neither_told about.Partners what is told = (told.0, all_looked_up 1 now.partners told.0 told.1, told.2)
+  neither_told (about.Partner code) what is told = partner_filled now.partners (partner_called now (string_bytes code)) what told
+  neither_told about.Health what is told = told
+  neither_told about.Metrics what is told = (told.0, (told.1.0, all_looked_up 1 now.partners told.1.0 told.1.1, told.1.2), told.2)
+  neither_told other what is told = absurd is
+
+  pub filled_neither : (asked : Query) (found : Option (List ℕ)) → IsOfNeither asked.about → TellsOf now mine own asked found → TellsOf now state rows asked found
+  filled_neither asked found is told = (told.0, neither_told asked.about told.0 is told.1, told.2)
 
   -- ---- a number
 
-  by_text : (code : List ℕ) (p n : ℕ) (text reply found : Option (List ℕ)) → TellsReply own code p n text reply found → TellsReply rows code p n text reply found
+  by_text : (code : List ℕ) (p n : ℕ) (text reply : Option (List ℕ)) (found : Option ReportContent) → TellsReply own code p n text reply found → TellsReply rows code p n text reply found
   by_text code p n None reply found told = told
   by_text code p n (Some text) reply found told = told
 
-  reply_filled : (code : List ℕ) (n : ℕ) (id : Option ℕ) (found : Option (List ℕ)) → TellsReplyOf own code n id found → TellsReplyOf rows code n id found
+  reply_filled : (code : List ℕ) (n : ℕ) (id : Option ℕ) (found : Option ReportContent) → TellsReplyOf own code n id found → TellsReplyOf rows code n id found
   reply_filled code n None found told = told
   reply_filled code n (Some p) found told = by_text code p n (text_in rows p n) (reply_in rows p n) found told
 
-  contrl_same : (n : ℕ) (id : Option ℕ) → contrl_for_partner own n id ≡ contrl_for_partner rows n id
-  contrl_same n None = refl
-  contrl_same n (Some p) = refl
+  contrl_same : (code : List ℕ) (n : ℕ) (id : Option ℕ) → contrl_for_partner own code n id ≡ contrl_for_partner rows code n id
+  contrl_same code n None = refl
+  contrl_same code n (Some p) = refl
 
   ticket_same : (code : List ℕ) (n : ℕ) (id : Option ℕ) → ticket_of state.visits own code n id ≡ ticket_of state.visits rows code n id
   ticket_same code n None = refl
   ticket_same code n (Some p) = refl
 
-  pub filled_number : (asked : Query) (found : Option (List ℕ)) (code : List ℕ) (n : ℕ) → IsOfNumber asked code n → TellsOf now mine own asked found → TellsOf now state rows asked found
-  filled_number (query.Reply partner k) found code n is told = reply_filled (string_bytes partner) k (partner_called now (string_bytes partner)) found told
-  filled_number (query.Contrl partner k) found code n is told = told ∙ contrl_same k (partner_called now (string_bytes partner))
-  filled_number (query.Ticket partner k) found code n is told = told ∙ ticket_same (string_bytes partner) k (partner_called now (string_bytes partner))
-  filled_number other found code n is told = absurd is
+  number_told : (asked : About) (what : Option ReportContent) (code : List ℕ) (n : ℕ) → IsOfNumber asked code n → TellsAbout now mine own asked what → TellsAbout now state rows asked what
+  number_told (about.Reply partner k) what code n is told = reply_filled (string_bytes partner) k (partner_called now (string_bytes partner)) what told
+  number_told (about.Contrl partner k) what code n is told = told ∙ contrl_same (string_bytes partner) k (partner_called now (string_bytes partner))
+  number_told (about.Ticket partner k) what code n is told = λ view. told view ∙ ap (option_map (shown view)) (ticket_same (string_bytes partner) k (partner_called now (string_bytes partner)))
+  number_told other what code n is told = absurd is
+
+  pub filled_number : (asked : Query) (found : Option (List ℕ)) (code : List ℕ) (n : ℕ) → IsOfNumber asked.about code n → TellsOf now mine own asked found → TellsOf now state rows asked found
+  filled_number asked found code n is told = (told.0, number_told asked.about told.0 code n is told.1, told.2)
 
   -- ---- a container
 
-  pub filled_visits : (container : BoxNumber) (found : Option (List ℕ)) → TellsOf now mine own (query.Visits container) found → TellsOf now state rows (query.Visits container) found
-  filled_visits container found told = told
+  pub filled_visits : (container : BoxNumber) (what : Option ReportContent) → TellsAbout now mine own (about.Visits container) what → TellsAbout now state rows (about.Visits container) what
+  filled_visits container what told = told
 
-  open_same : AreDoneIfAway away state.lines → (container : BoxNumber) → open_lines_text mine.lines container ≡ open_lines_text state.lines container
+  pub open_same : AreDoneIfAway away state.lines → (container : BoxNumber) → open_lines mine.lines container ≡ open_lines state.lines container
   open_same done container =
-      ap (flat_map open_line)
-      (open_kept away (is_open_for container) (λ entry is. (both_true (bytes_eq (container_in entry.0) container) (is_pending entry.1.state) is).1) state.lines done)
+      open_kept away (is_open_for container) (λ entry is. (both_true (bytes_eq (container_in entry.0) container) (is_pending entry.1.state) is).1) state.lines done
 
-  report_same : (container : BoxNumber) (visit : Option VisitContent) (slot : Option Slot) → open_lines_text mine.lines container ≡ open_lines_text state.lines container
-      → report_by now mine container visit slot ≡ report_by now state container visit slot
-  report_same container (Some visit) (Some slot) same = ap (λ text. Some (container_head container ++ here_line now visit slot (blocker_in state container) ++ text)) same
-  report_same container (Some visit) None same = refl
-  report_same container None slot same = refl
+  found_same : (container : BoxNumber) (visit : Option VisitContent) (slot : Option Slot) → open_lines mine.lines container ≡ open_lines state.lines container
+      → found_by now mine container visit slot ≡ found_by now state container visit slot
+  found_same container (Some visit) (Some slot) same =
+      ap (λ lists. Some (by_visit visit container (Some (arrival_by now visit)) (Some (stay_by visit slot (blocker_in state container) lists)))) same
+  found_same container (Some visit) None same = refl
+  found_same container None slot same = refl
 
   -- no line is missing that is open
-  pub filled_container : (container : BoxNumber) (found : Option (List ℕ)) → AreDoneIfAway away state.lines → TellsOf now mine own (query.Container container) found → TellsOf now state rows (query.Container container) found
-  filled_container container found done told = told ∙ report_same container (open_visit state container) (slot_in state container) (open_same done container)
+  pub filled_container : (container : BoxNumber) (what : Option ReportContent) → AreDoneIfAway away state.lines → TellsAbout now mine own (about.Container container) what → TellsAbout now state rows (about.Container container) what
+  filled_container container what done told =
+      let lines = open_same done container in
+      told
+      ∙ ap (option_map (container_by now mine container)) (found_same container (open_visit state container) (slot_in state container) lines)
+      ∙ ap (λ lists. option_map (λ report. value.container report lists (visits_of now state container)) (container_of now state container)) lines
 
   -- ---- a list
 
   line_there : (call : CallContent) (side : Side) → away (list_name call side) ≡ false → (container : BoxNumber) → line_of mine call side container ≡ line_of state call side container
   line_there call side here container = own_there away state.lines (line_key call side container) here
 
-  work_same : (call : CallContent) (side : Side) (list : List Entry) → work_found mine call side list ≡ work_found state call side list
+  work_same : (call : CallContent) (side : Side) (list : List Entry) → work_by mine call side list ≡ work_by state call side list
   work_same call side [] = refl
   work_same call side (entry ∷ list) = refl
 
   -- it is here
-  pub filled_list : (asked : Query) (found : Option (List ℕ)) (call : CallContent) (side : Side) → IsOfList asked call side → away (list_name call side) ≡ false → TellsOf now mine own asked found → TellsOf now state rows asked found
-  filled_list (query.List named on) found call side is here told =
+  list_filled : (asked : About) (what : Option ReportContent) (call : CallContent) (side : Side) → IsOfList asked call side → away (list_name call side) ≡ false → TellsAbout now mine own asked what → TellsAbout now state rows asked what
+  list_filled (about.List named on) what call side is here told =
       let its : away (list_name (call_content named) on) ≡ false = (λ i. away (list_name (is.0 i) (is.1 i))) ∙ here in
       record { list = told.list; listed = listed_alike mine state (call_content named) on (line_there (call_content named) on its) told.list told.listed; is = told.is }
-  filled_list (query.Work named on) found call side is here told =
+  list_filled (about.Work named on) what call side is here told =
       let its : away (list_name (call_content named) on) ≡ false = (λ i. away (list_name (is.0 i) (is.1 i))) ∙ here in
-      record { list = told.list; listed = listed_alike mine state (call_content named) on (line_there (call_content named) on its) told.list told.listed; is = told.is ∙ work_same (call_content named) on told.list }
-  filled_list other found call side is here told = absurd is
+      record { list = told.list; listed = listed_alike mine state (call_content named) on (line_there (call_content named) on its) told.list told.listed; is = told.is ∙ ap (option_map value.work) (work_same (call_content named) on told.list) }
+  list_filled other what call side is here told = absurd is
+
+  pub filled_list : (asked : Query) (found : Option (List ℕ)) (call : CallContent) (side : Side) → IsOfList asked.about call side → away (list_name call side) ≡ false → TellsOf now mine own asked found → TellsOf now state rows asked found
+  filled_list asked found call side is here told = (told.0, list_filled asked.about told.0 call side is here told.1, told.2)
 
   -- ---- whether a list has lines in the store
 
-  no_content : (call : CallContent) (side : Side) (list : List Entry) → AreListed (HasContent mine call side) list → None ≡ list_found call side list
+  no_content : (call : CallContent) (side : Side) (list : List Entry) → AreListed (HasContent mine call side) list → None ≡ option_map value.list (list_by call side list)
       → (container : BoxNumber) (line : Option LineContent) → line_of mine call side container ≡ line → line ≡ None
   no_content call side [] listed is container None has = refl
   no_content call side [] listed is container (Some line) has = absurd (nothing_in_empty (container, line) (listed.each container line has))
   no_content call side (entry ∷ list) listed is container line has = cc
 
   -- nothing is told of it
-  pub no_list : (call : Call) (side : Side) (found : Option (List ℕ)) → found ≡ None → TellsOf now mine own (query.List call side) found
+  pub no_list : (call : Call) (side : Side) (what : Option ReportContent) → what ≡ None → TellsAbout now mine own (about.List call side) what
       → (container : BoxNumber) → line_of mine (call_content call) side container ≡ None
-  no_list call side found none told container =
+  no_list call side what none told container =
       no_content (call_content call) side told.list told.listed (sym none ∙ told.is) container (line_of mine (call_content call) side container) refl
 
-  some_content : (call : CallContent) (side : Side) (list : List Entry) (text : List ℕ) → AreListed (HasContent mine call side) list → Some text ≡ list_found call side list → HasLine mine call side
-  some_content call side [] text listed is = absurd cc
-  some_content call side (entry ∷ list) text listed is = record { container = entry.0; line = entry.1; has = listed.only entry.0 entry.1 (first_in entry list) }
+  some_content : (call : CallContent) (side : Side) (list : List Entry) (one : ReportContent) → AreListed (HasContent mine call side) list → Some one ≡ option_map value.list (list_by call side list) → HasLine mine call side
+  some_content call side [] one listed is = absurd cc
+  some_content call side (entry ∷ list) one listed is = record { container = entry.0; line = entry.1; has = listed.only entry.0 entry.1 (first_in entry list) }
 
   -- something is told of it
-  pub some_list : (call : Call) (side : Side) (found : Option (List ℕ)) (text : List ℕ) → found ≡ Some text → TellsOf now mine own (query.List call side) found → HasLine mine (call_content call) side
-  some_list call side found text some told = some_content (call_content call) side told.list text told.listed (sym some ∙ told.is)
+  pub some_list : (call : Call) (side : Side) (what : Option ReportContent) (one : ReportContent) → what ≡ Some one → TellsAbout now mine own (about.List call side) what → HasLine mine (call_content call) side
+  some_list call side what one some told = some_content (call_content call) side told.list one told.listed (sym some ∙ told.is)
 
 -- ==== Telling: What archives keep of a number, and what is answered by it.
 

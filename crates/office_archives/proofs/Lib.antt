@@ -6,7 +6,9 @@ pub mod Alone
 pub mod Accounts
 pub mod Brought
 pub mod Told
+pub mod Noted
 pub mod Beside
+pub mod OfArchive
 pub mod Journal
 pub mod PartQuery
 pub mod Sources

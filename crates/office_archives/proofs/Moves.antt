@@ -7,7 +7,7 @@ use Rattle.edi_messages.specs.{declared.codes.PartnerKind.PartnerKind, Purposes.
 use Rattle.edi_messages.specs.Orders.{EntryContent, OrderContent, gate_in, gate_out, move, list_discharge, list_load, discharge, load}
 use Rattle.partner_core.specs.Deliveries.{run}
 use Rattle.terminal_core.specs.{declared.visits.Departure.Departure, Rows.VisitContent, Versions.spares_empty, declared.change.Version.Version}
-use Rattle.terminal_core.specs.{State.{TerminalState, LineContent, line_of, is_in, is_open_visit, is_visit_of}, declared.lines.LineState.LineState}
+use Rattle.terminal_core.specs.{State.{TerminalState, LineContent, last_number, line_of, is_in, is_open_visit, is_visit_of}, declared.lines.LineState.LineState}
 use Rattle.terminal_core.specs.{declared.lines.LineState.TheVariants.{Pending, Done as LineIsDone}, declared.change.Outcome.Outcome, declared.lines.Side.Side}
 use Rattle.terminal_core.specs.{declared.change.Outcome.TheVariants.Refused, declared.change.Reason.TheVariants.{AlreadyIn, NotIn, VisitLimit}}
 use Rattle.terminal_core.specs.{declared.lines.Side.TheVariants.{Load, Discharge}, declared.change.Source.Source, declared.visits.Way.Way}
@@ -18,17 +18,17 @@ use Rattle.office_replies.specs.Events.{Event}
 use Rattle.office_rows.specs.{Effects.is_pair, Opening.tables_version, Rows.{Interchange, Rows}}
 use Rattle.office_tables.specs.Answers.{has_id, IsNextOf}
 use Rattle.office_loading.specs.Waiting.{is_waiting, waiting_numbers}
-use Rattle.office_reports.specs.{declared.query.Query.Query, Program.program_version, Metrics.{gauge, gauges, gauge_text, is_here, versions_text}}
+use Rattle.office_reports.specs.{declared.query.About.About, Program.program_version, Metrics.{gauge, gauges, gauge_text, is_here, versions_text}}
 use Rattle.office_reports.specs.Partners.{PartnerContent}
 use Rattle.office_history.{specs.After.{content_after, machine_after}, proofs.{Accounted.next_follows, Kept.count_more}}
 use Rattle.office_parts.specs.{OwnTerminal.{own_terminal, own_visits, IsOverOrStays, MayStay}, Closing.is_put_away, Parts.{Archived, ArePartsAfter}}
 use Rattle.office_parts.proofs.{Takings.visits_same, Orders.closed_within, Splits.{contained_has, has_contained, had_filtered, Has, has_mapped, has_pushed}}
-use Rattle.office_desk.specs.Reports.{AreLookedUp, IsLookedUp, partner_called, TellsOf, TellsPartner}
-use Rattle.office_archives.specs.{Counted.{with_visits, IsOfPartners}, Laws.{PartnersAreToldAlike, MetricsAreTold}}
+use Rattle.office_desk.specs.Reports.{AreLookedUp, IsLookedUp, partner_called, TellsAbout, TellsPartner}
+use Rattle.office_archives.specs.{Counted.{with_visits, IsOfPartners, TellsOwnMetrics}, Laws.{PartnersAreToldAlike, MetricsAreTold}}
 use Rattle.box6346.specs.{declared.box_number.BoxNumber.BoxNumber, declared.slot.Slot.Slot}
 use Rattle.edi_syntax.specs.Moments.{CivilMoment}
 use Rattle.yard_core.specs.{declared.placements.Placement.Placement, Decisions.{Refusal, yard_without, yard_with_move}, YardMap.YardMap}
-use Rattle.office_reports.specs.declared.query.Query.TheVariants as query
+use Rattle.office_reports.specs.declared.query.About.TheVariants as about
 
 -- ==== CountedTold: Reports that count, by the store's own rows and by the whole.
 
@@ -85,7 +85,7 @@ module _ (content : SetupContent) (es : List Event) (archived : Archived) (own w
     waiting = subst (λ numbers. IsPermutation numbers partner.waiting) (waiting_same id partner.next (next_beyond id partner.next is.next)) is.waiting;
   }
 
-  all_looked_up : (id : ℕ) (accounts : List (List ℕ × PartnerKind)) (partners : List PartnerContent) → AreLookedUp own id accounts partners → AreLookedUp whole id accounts partners
+  pub all_looked_up : (id : ℕ) (accounts : List (List ℕ × PartnerKind)) (partners : List PartnerContent) → AreLookedUp own id accounts partners → AreLookedUp whole id accounts partners
   all_looked_up id [] [] all = tt
   all_looked_up id [] (partner ∷ partners) all = absurd all
   all_looked_up id (account ∷ accounts) [] all = absurd all
@@ -120,40 +120,44 @@ parted stays (v ∷ visits) = by (stays v.number) (parted stays visits)
 -- ---- the laws
 
 pub partners_told : PartnersAreToldAlike
-partners_told content es archived own whole asked found are is told = at asked is told
+partners_told content es archived own whole asked what are is told = at asked is told
   where
     now : SetupContent
     now = content_after content es
 
-    one : (id : Option ℕ) → TellsPartner own now.partners id found → TellsPartner whole now.partners id found
+    one : (id : Option ℕ) → TellsPartner own now.partners id what → TellsPartner whole now.partners id what
     one None told = told
     one (Some id) told = (told.0, told.1, (told.2.0, looked_up content es archived own whole are id told.0 told.2.0 told.2.1, told.2.2))
 
-    at : (asked : Query) → IsOfPartners asked → TellsOf now (own_terminal archived.stays (machine_after content es).terminal) own asked found → TellsOf now (machine_after content es).terminal whole asked found
-    at query.Partners is told = (told.0, all_looked_up content es archived own whole are 1 now.partners told.0 told.1, told.2)
-    at (query.Partner code) is told = one (partner_called now (string_bytes code)) told
-    at query.Health is told = told
+    at : (asked : About) → IsOfPartners asked → TellsAbout now (own_terminal archived.stays (machine_after content es).terminal) own asked what → TellsAbout now (machine_after content es).terminal whole asked what
+    at about.Partners is told = (told.0, all_looked_up content es archived own whole are 1 now.partners told.0 told.1, told.2)
+    at (about.Partner code) is told = one (partner_called now (string_bytes code)) told
+    at about.Health is told = told
     at other is told = absurd is
 
 gauges_kept : (stays : ℕ → Bool) (state : TerminalState) (limit : ℕ) (partners : List PartnerContent) → count_by is_here (own_visits stays state.visits) ≡ count_by is_here state.visits
+    → last_number (own_visits stays state.visits) ≡ last_number state.visits
     → gauges (own_terminal stays state) limit partners ≡ map (with_visits (length (own_visits stays state.visits))) (gauges state limit partners)
-gauges_kept stays state limit partners here =
-    ap₂ ◌∷◌ refl (ap₂ ◌∷◌ (ap (gauge (codes "office_containers") (codes "Containers in the yard.")) here) refl)
+gauges_kept stays state limit partners here newest =
+    ap₂ ◌∷◌ refl (ap₂ ◌∷◌ (ap (gauge (codes "office_containers") (codes "Containers in the yard.")) here)
+    (ap₂ ◌∷◌ refl (ap₂ ◌∷◌ (ap (gauge (codes "office_visits_ever") (codes "Visits recorded, put away ones too.")) newest) refl)))
 
 pub metrics_told : MetricsAreTold
-metrics_told content es archived own whole found are told =
+metrics_told content es archived own whole what are told =
     let state : TerminalState = (machine_after content es).terminal in
     let now : SetupContent = content_after content es in
     let may : MayStay archived.stays state.visits = subst (MayStay archived.stays) (visits_same content es whole are.after) are.stay in
-    record {
+    let found = told.1 in
+    let own_told : TellsOwnMetrics now archived.stays state whole told.0 = record {
       count = length (own_visits archived.stays state.visits);
       all = parted archived.stays state.visits;
       tells = (
-        told.0,
-        all_looked_up content es archived own whole are 1 now.partners told.0 told.1,
-        told.2 ∙ ap (λ l. Some (flat_map gauge_text l ++ versions_text program_version tables_version)) (gauges_kept archived.stays state now.visit_limit told.0 (here_kept archived.stays state.visits may.over)),
+        found.0,
+        all_looked_up content es archived own whole are 1 now.partners found.0 found.1,
+        found.2 ∙ ap (λ l. Some (flat_map gauge_text l ++ versions_text program_version tables_version)) (gauges_kept archived.stays state now.visit_limit found.0 (here_kept archived.stays state.visits may.over) may.newest),
       );
-    }
+    } in
+    (told.0, own_told, told.2)
 
 -- ==== Moves: What an order makes of the visits: none is lost, and what is over stays as it is.
 

@@ -1,5 +1,5 @@
 -- Lists that are put into a register: of each list the lines are those that were put there last.
-use Rattle.std.specs.{Prelude.{IsTrue, filter, ◌&&◌, ◌==◌, fold, nat_le, nat_lt, ◌-◌, remove, slice_get, slice_index_or}, declared.alloc.Global.Global}
+use Rattle.std.specs.{Prelude.{IsTrue, count_by, filter, ◌&&◌, ◌==◌, fold, nat_le, nat_lt, ◌-◌, remove, slice_get, slice_index_or}, declared.alloc.Global.Global}
 use Rattle.std.specs.{Option.{option_and_then, option_or, unwrap_or}, List.{AllByRecursion, list_all, position, position_or_len}, Str.bytes_eq}
 use Rattle.std.specs.{Cmp.Lexicographic.{bytes_decides, slice_cmp}, Ordering.{is_lt, nat_cmp, ordering_reverse, ordering_then}}
 use Rattle.std.proofs.{lemmas.Bool.{and_parts, eqb-true, leb-true, le-leb, leb-false, ltb-true}, lemmas.Bool.Decides.nat_tests, lemmas.List.Edits.length-remove}
@@ -16,17 +16,19 @@ use Rattle.office_parts.{specs.{Archives.{Archive, archive_of}, OwnTerminal.{own
 use Rattle.office_closing.specs.{Register.register_content, Seals.HasSeals, declared.register.Register.Register, Sound.{are_rising, may_be_list}}
 use Rattle.office_closing.specs.Lists.{SettledListContent, comes_before, is_of_list, lines_of_list, list_cmp, lists_among, put_list, put_lists}
 use Rattle.office_closing.proofs.SoundLemmas.{list_total}
-use Rattle.office_desk.{specs.Reports.{TellsOf, TellsNext, partner_called}, proofs.Faults.reply_of_kept}
+use Rattle.office_desk.{specs.Reports.{TellsAbout, TellsNext, partner_called}, proofs.Faults.reply_of_kept}
 use Rattle.office_archives.specs.Shelves.{AreSealed, AreShelved, IsLastSound, IsOpenAt, IsOpenIfKnown, IsSealedIfSaid, IsSoundIfAny, IsToldBy, LeavesOpen, NamesAll, OpensFor, ShowsSo, archive_at, left_open, with_room}
 use Rattle.office_archives.specs.{declared.opened.Opened.Opened, Reporting.{IsOfWhatStands, WhatStandsIsToldAlike}}
 use Rattle.box6346.specs.declared.box_number.BoxNumber.{BoxNumber}
 use Rattle.edi_messages.specs.{Owned.call_content, declared.call.Call.Call, Purposes.CallContent, Texts.is_name}
 use Rattle.terminal_core.specs.{declared.lines.Side.Side, State.{LineContent, TerminalState, open_visit, side_code}}
 use Rattle.office_admission.specs.Setups.{SetupContent}
-use Rattle.office_reports.specs.{declared.query.Query.Query, Listed.AreListed, Yard.{StandsAt, slot_in}, declared.yard.Standing.Standing, Containers.blocker_in}
-use Rattle.office_reports.specs.Work.{is_open_entry, jobs_of, jobs_text, standing_by, work_found, work_head}
+use Rattle.office_reports.specs.{declared.query.About.About, Listed.AreListed, Yard.{StandsAt, slot_in}, declared.yard.Standing.Standing, Containers.blocker_in}
+use Rattle.office_reports.specs.{Work.{is_open_entry, jobs_of, standing_by, work_by}, Lists.is_done_line}
+use Rattle.office_report_data.specs.Told.{ReportContent}
+use Rattle.office_report_data.specs.Told as value
 use Rattle.office_closing.specs.Register as register
-use Rattle.office_reports.specs.declared.query.Query.TheVariants as query
+use Rattle.office_reports.specs.declared.query.About.TheVariants as about
 
 -- ==== Shelved: Archives on a shelf, of which some are open.
 
@@ -224,7 +226,7 @@ module _ (stays : ℕ → Bool) (state : TerminalState) (may : MayStay stays sta
   stands_whole : (text : List ℕ) (standing : Standing) → StandsAt own text standing → StandsAt state text standing
   stands_whole text standing at = record { visit = at.visit; is_open = sym (open_same standing.container) ∙ at.is_open; is_shown = at.is_shown; stands = at.stands; named = at.named }
 
-  listed_whole : (yard : List (List ℕ × Standing)) → AreListed (StandsAt own) yard → AreListed (StandsAt state) yard
+  pub listed_whole : (yard : List (List ℕ × Standing)) → AreListed (StandsAt own) yard → AreListed (StandsAt state) yard
   listed_whole yard listed = record {
     sorted = listed.sorted;
     each = λ text standing at. listed.each text standing (stands_own text standing at);
@@ -234,31 +236,36 @@ module _ (stays : ℕ → Bool) (state : TerminalState) (may : MayStay stays sta
   jobs_same : (list : List (List ℕ × LineContent)) → jobs_of own list ≡ jobs_of state list
   jobs_same list = λ i. map (λ entry. record { container = entry.0; port = entry.1.port; standing = standing_by entry.0 (open_same entry.0 i) (slot_in state entry.0); blocker = blocker_in state entry.0 }) (filter is_open_entry list)
 
-  work_same : (call : Call) (side : Side) (list : List (List ℕ × LineContent)) → work_found own (call_content call) side list ≡ work_found state (call_content call) side list
+  work_same : (call : Call) (side : Side) (list : List (List ℕ × LineContent)) → work_by own (call_content call) side list ≡ work_by state (call_content call) side list
   work_same call side [] = refl
-  work_same call side (entry ∷ list) = ap (λ jobs. Some (work_head (call_content call) side ++ jobs_text side jobs)) (jobs_same (entry ∷ list))
+  work_same call side (entry ∷ list) =
+      ap (λ jobs. Some (record { call = call_content call; side = side; jobs = jobs; done = count_by is_done_line (entry ∷ list); whole = length (entry ∷ list) })) (jobs_same (entry ∷ list))
 
 next_whole : (rows whole : Rows) (id : Option ℕ) (found : Option (List ℕ)) → whole.partners ≡ rows.partners → TellsNext rows id found → TellsNext whole id found
 next_whole rows whole None found same told = told
 next_whole rows whole (Some id) found same told = (told.0, subst (λ partners. IsNextOf id (record whole { partners = partners }) told.0) (sym same) told.1, told.2)
 
 pub told_alike : WhatStandsIsToldAlike
-told_alike content es archived own whole asked found parts is told =
+told_alike content es archived own whole asked what parts is told =
     let state = (machine_after content es).terminal in
     let may : MayStay archived.stays state.visits = subst (MayStay archived.stays) (visits_same content es whole parts.after) parts.stay in
-    at archived.stays state may own whole (content_after content es) asked found parts.parts.partners is told
+    at archived.stays state may own whole (content_after content es) asked what parts.parts.partners is told
   where
-    at : (stays : ℕ → Bool) (state : TerminalState) (may : MayStay stays state.visits) (own whole : Rows) (now : SetupContent) (asked : Query) (found : Option (List ℕ)) → whole.partners ≡ own.partners → IsOfWhatStands asked →
-        TellsOf now (own_terminal stays state) own asked found → TellsOf now state whole asked found
-    at stays state may own whole now query.Yard found same is told = (told.0, told.1, record { yard = told.2.yard; listed = listed_whole stays state may told.2.yard told.2.listed; is = told.2.is })
-    at stays state may own whole now query.YardTable found same is told = (told.0, told.1, record { yard = told.2.yard; listed = listed_whole stays state may told.2.yard told.2.listed; is = told.2.is })
-    at stays state may own whole now query.Picture found same is told = (told.0, told.1, record { yard = told.2.yard; listed = listed_whole stays state may told.2.yard told.2.listed; is = told.2.is })
-    at stays state may own whole now query.Blocks found same is told = (told.0, told.1, record { yard = told.2.yard; listed = listed_whole stays state may told.2.yard told.2.listed; is = told.2.is })
-    at stays state may own whole now query.Calls found same is told = told
-    at stays state may own whole now (query.List call side) found same is told = record { list = told.list; listed = told.listed; is = told.is }
-    at stays state may own whole now (query.Work call side) found same is told = record { list = told.list; listed = told.listed; is = told.is ∙ work_same stays state may call side told.list }
-    at stays state may own whole now (query.Next code) found same is told = next_whole own whole (partner_called now (string_bytes code)) found same told
-    at stays state may own whole now other found same is told = absurd is
+    at : (stays : ℕ → Bool) (state : TerminalState) (may : MayStay stays state.visits) (own whole : Rows) (now : SetupContent) (asked : About) (what : Option ReportContent) → whole.partners ≡ own.partners → IsOfWhatStands asked →
+        TellsAbout now (own_terminal stays state) own asked what → TellsAbout now state whole asked what
+    at stays state may own whole now about.Yard what same is told = (told.0, listed_whole stays state may told.0 told.1, told.2)
+    at stays state may own whole now about.Picture what same is told =
+        (told.0, told.1, record { yard = told.2.yard; listed = listed_whole stays state may told.2.yard told.2.listed; is = told.2.is })
+    at stays state may own whole now about.Blocks what same is told =
+        (told.0, record { yard = told.1.yard; listed = listed_whole stays state may told.1.yard told.1.listed; is = told.1.is }, told.2)
+    at stays state may own whole now (about.Block letter) what same is told = (told.0, listed_whole stays state may told.0 told.1, told.2)
+    at stays state may own whole now about.Calls what same is told = told
+    at stays state may own whole now (about.List call side) what same is told = record { list = told.list; listed = told.listed; is = told.is }
+    at stays state may own whole now (about.Work call side) what same is told =
+        record { list = told.list; listed = told.listed; is = told.is ∙ ap (option_map value.work) (work_same stays state may call side told.list) }
+    at stays state may own whole now (about.Next code) what same is told =
+        (told.0, next_whole own whole (partner_called now (string_bytes code)) told.0 same told.1, told.2)
+    at stays state may own whole now other what same is told = absurd is
 
 -- ==== Rising: Lists that are put into a register: of each list the lines are those that were put there last.
 

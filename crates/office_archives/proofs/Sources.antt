@@ -1,6 +1,7 @@
 -- An interchange opens and closes visits in its own name: those of another stay as they are.
-use Rattle.std.{specs.{Prelude.{◌==◌, filter, codes, Contains}, Str.bytes_eq, List.{flat_map, list_any}}, proofs.lemmas.List.append-nil}
-use Rattle.std.proofs.Common.{◌≡◌, ℕ, List, [], ◌∷◌, ◌++◌, map, Bool, true, false, cond, ◌&&◌, ◌||◌, Option, None, Some, is_some, is_none, Result, Ok, Err, refl, sym, ap, ◌∙◌, ◌<◌, inl, inr, arith, subst}
+use Rattle.std.{specs.{Prelude.{◌==◌, filter, codes, Contains}, Str.bytes_eq, List.{flat_map, list_any}}, proofs.lemmas.List.{append-nil, length-map}}
+use Rattle.std.proofs.lemmas.List.Folds.{flat_map-map}
+use Rattle.std.proofs.Common.{◌≡◌, ap₂, decimal, ℕ, List, [], ◌∷◌, ◌++◌, length, map, Bool, true, false, cond, ◌&&◌, ◌||◌, Option, None, Some, is_some, is_none, Result, Ok, Err, refl, sym, ap, ◌∙◌, ◌<◌, inl, inr, arith, subst}
 use Rattle.std.proofs.{lemmas.Bool.{and_parts, eqb-true, false_from_ne_true, and_from}, lemmas.List.Elements.filter-append}
 use Rattle.box6346.specs.{declared.box_number.BoxNumber.BoxNumber, declared.slot.Slot.Slot}
 use Rattle.edi_syntax.specs.{Moments.CivilMoment, Interchange.segments_in, Envelope.{header_of, messages_of}, Header.preparation, Messages.Message}
@@ -18,13 +19,24 @@ use Rattle.terminal_core.specs.Step.{StepResult, with_refusal, step_by, yard_wit
 use Rattle.terminal_core.proofs.Changing.{either}
 use Rattle.office_admission.specs.{Admission.{admission, is_for, number_said}, Readings.reading_by}
 use Rattle.office_admission.specs.Taking.{MachineState, clearing_of, clearing_for, list_replaced, line_taken_by, lines_taken_by, verdict_on_by, messages_taken_by, codes_for, source_in, nothing_taken, taken_at_by, taken_of_by, interchange_taken_by}
-use Rattle.office_reports.specs.Tickets.{is_source, is_opened_by, exit_moment_by, is_told_by, entry_line, exit_line, entry_lines, exit_lines, ticket_lines}
-use Rattle.office_reports.specs.Names.{line}
+use Rattle.office_reports.specs.Tickets.{is_closed_by, is_source, is_opened_by, exit_moment_by, is_told_by, entry_line, exit_line, entry_lines, exit_lines, ticket_lines, ticket_of, told_text}
+use Rattle.office_reports.{specs.{declared.query.View.View, declared.query.View.TheVariants.{Text, Json, Csv, Page}, Names.line}, proofs.Standings.ticket_stays}
+use Rattle.office_pages.specs.{Fixed.foot, Tables.{section_head, table_of}, Tickets.{closed_columns, closed_row, opened_columns, opened_row, ticket_page, ticket_top}}
+use Rattle.office_report_data.specs.{Tickets.{closed_data, opened_data, ticket_data}, Told.shown}
+use Rattle.serde_json.specs.{Data.{array, member, no_members, number as json_number, object, string, unsigned}, View.items_of, Written.compact_text}
 use Rattle.office_archives.specs.{Visits.{departure_by, visit_by, visits_by, IsWithin, HasLeftWithin, IsVisitWithin}, Stayed.GoOldestFirst}
 use Rattle.office_archives.specs.Laws.{ClosingsGoOldestFirst, NothingWentAtFirst}
 use Rattle.office_parts.{specs.OwnTerminal.{own_visits, is_own}, proofs.Splits.{Has, contained_has, has_contained, has_filtered}}
+use Rattle.office_report_data.specs.Told as value
 
 -- ---- lists of visits
+
+-- rows that are the same are as many, and make one text
+as_many : {X Y : Type 0} (row : X → Y) (one other : List X) → map row one ≡ map row other → length one ≡ length other
+as_many row one other same = sym (length-map one row) ∙ ap length same ∙ length-map other row
+
+rows_joined : {X : Type 0} (row : X → List ℕ) (one other : List X) → map row one ≡ map row other → flat_map row one ≡ flat_map row other
+rows_joined row one other same = sym (flat_map-map (λ (text : List ℕ). text) row one) ∙ ap (flat_map (λ (text : List ℕ). text)) same ∙ flat_map-map (λ (text : List ℕ). text) row other
 
 module _ (mine : Source) where
   mapped_cond : (b : Bool) (v : VisitContent) (visits : List VisitContent) → map (visit_by mine) (cond b (v ∷ visits) visits) ≡ cond b (visit_by mine v ∷ map (visit_by mine) visits) (map (visit_by mine) visits)
@@ -257,6 +269,87 @@ module _ (mine : Source) where
 
   pub same_lines : (visits : List VisitContent) → ticket_lines mine visits ≡ ticket_lines mine (visits_by mine visits)
   same_lines visits i = cond (any_same visits i) (entries_same visits i ++ exits_same visits i) (line (codes "NOTHING" ∷ []))
+
+  -- ---- the rows of JSON
+
+  -- what is told of those that a ticket tells of is told of them as the interchange knows them
+  rows_same : {X : Type 0} (is : VisitContent → Bool) (row : VisitContent → X) → ((v : VisitContent) → is (visit_by mine v) ≡ is v) → ((v : VisitContent) → is_told_by mine v ≡ false → is v ≡ false)
+      → ((v : VisitContent) → is v ≡ true → row (visit_by mine v) ≡ row v) → (visits : List VisitContent) → map row (filter is visits) ≡ map row (filter is (visits_by mine visits))
+  rows_same is row kept untold alike [] = refl
+  rows_same is row kept untold alike (v ∷ visits) =
+      by (is_told_by mine v) refl (is v) refl (rows_same is row kept untold alike visits) ∙ sym (ap (λ l. map row (filter is l)) (by_cons mine v visits))
+    where
+      others : List VisitContent
+      others = visits_by mine visits
+
+      by : (told : Bool) → is_told_by mine v ≡ told → (its : Bool) → is v ≡ its → map row (filter is visits) ≡ map row (filter is others)
+          → map row (cond (is v) (v ∷ filter is visits) (filter is visits)) ≡ map row (filter is (cond told (visit_by mine v ∷ others) others))
+      by true e true f rest =
+          ap (λ b. map row (cond b (v ∷ filter is visits) (filter is visits))) f
+          ∙ ap₂ (λ x l. x ∷ l) (sym (alike v f)) rest
+          ∙ sym (ap (λ b. map row (cond b (visit_by mine v ∷ filter is others) (filter is others))) (kept v ∙ f))
+      by true e false f rest =
+          ap (λ b. map row (cond b (v ∷ filter is visits) (filter is visits))) f ∙ rest
+          ∙ sym (ap (λ b. map row (cond b (visit_by mine v ∷ filter is others) (filter is others))) (kept v ∙ f))
+      by false e its f rest = ap (λ b. map row (cond b (v ∷ filter is visits) (filter is visits))) (untold v e) ∙ rest
+
+  own_departure : (departure : Option Departure) → is_some (exit_moment_by mine departure) ≡ true → departure_by mine departure ≡ departure
+  own_departure None e = refl
+  own_departure (Some departure) e = by (is_source departure.source mine) e
+    where
+      by : (is : Bool) → is_some (cond is (Some departure.moment) None) ≡ true → cond is (Some departure) None ≡ Some departure
+      by true e = refl
+      by false e = cc
+
+  -- by whatever is the same without a departure
+  opened_same : {X : Type 0} (row : VisitContent → X) → ((v : VisitContent) → row (visit_by mine v) ≡ row v) → (visits : List VisitContent) → map row (filter (is_opened_by mine) visits) ≡ map row (filter (is_opened_by mine) (visits_by mine visits))
+  opened_same row alike =
+      rows_same (is_opened_by mine) row (λ v. refl) (λ v e. (none_or (is_opened_by mine v) (is_some (exit_moment_by mine v.departure)) e).0) (λ v e. alike v)
+
+  closed_same : {X : Type 0} (row : VisitContent → X) (visits : List VisitContent) → map row (filter (is_closed_by mine) visits) ≡ map row (filter (is_closed_by mine) (visits_by mine visits))
+  closed_same row =
+      rows_same (is_closed_by mine) row (λ v. ap is_some (same_moment v.departure)) (λ v e. (none_or (is_opened_by mine v) (is_some (exit_moment_by mine v.departure)) e).1)
+      (λ v e. ap (λ departure. row (record v { departure = departure })) (own_departure v.departure e))
+
+  text_same : (code : List ℕ) (visits : List VisitContent) → told_text (ticket_of code mine visits) ≡ told_text (ticket_of code mine (visits_by mine visits))
+  text_same code visits =
+      ticket_stays mine code visits ∙ ap (λ lines. line (codes "TICKET" ∷ code ∷ decimal mine.number ∷ []) ++ lines) (same_lines visits)
+      ∙ sym (ticket_stays mine code (visits_by mine visits))
+
+  data_same : (code : List ℕ) (visits : List VisitContent) → ticket_data (ticket_of code mine visits) ≡ ticket_data (ticket_of code mine (visits_by mine visits))
+  data_same code visits i =
+      object (member (codes "closed") (array (items_of (closed_same closed_data visits i))) (member (codes "number") (json_number (unsigned mine.number))
+      (member (codes "opened") (array (items_of (opened_same opened_data (λ v. refl) visits i))) (member (codes "partner") (string code) no_members))))
+
+  -- its page has as many rows, and they are the same
+  page_same : (code : List ℕ) (visits : List VisitContent) → ticket_page (ticket_of code mine visits) ≡ ticket_page (ticket_of code mine (visits_by mine visits))
+  page_same code visits =
+      let known = visits_by mine visits in
+      let came = filter (is_opened_by mine) visits in
+      let came_known = filter (is_opened_by mine) known in
+      let left = filter (is_closed_by mine) visits in
+      let left_known = filter (is_closed_by mine) known in
+      let in_same = opened_same opened_row (λ v. refl) visits in
+      let out_same = closed_same closed_row visits in
+      (λ i. ticket_top code mine.number
+      ++ (section_head (codes "Came in") (as_many opened_row came came_known in_same i) []
+      ++ table_of (as_many opened_row came came_known in_same i) opened_columns (rows_joined opened_row came came_known in_same i) (codes "It brought nothing in."))
+      ++ (section_head (codes "Went out") (as_many closed_row left left_known out_same i) []
+      ++ table_of (as_many closed_row left left_known out_same i) closed_columns (rows_joined closed_row left left_known out_same i) (codes "It took nothing out."))
+      ++ foot)
+
+  -- a ticket is shown as the interchange knows the visits
+  ticket_known : (code : List ℕ) (view : View) (visits : List VisitContent) → shown view (value.ticket (ticket_of code mine visits)) ≡ shown view (value.ticket (ticket_of code mine (visits_by mine visits)))
+  unfolding shown
+  ticket_known code Text visits = text_same code visits
+  ticket_known code Json visits = ap compact_text (data_same code visits)
+  ticket_known code Csv visits = text_same code visits
+  ticket_known code Page visits = page_same code visits
+
+  pub tickets_alike : (code : List ℕ) (one other : List VisitContent) → visits_by mine one ≡ visits_by mine other
+      → (view : View) → shown view (value.ticket (ticket_of code mine one)) ≡ shown view (value.ticket (ticket_of code mine other))
+  tickets_alike code one other same view =
+      ticket_known code view one ∙ ap (λ visits. shown view (value.ticket (ticket_of code mine visits))) same ∙ sym (ticket_known code view other)
 
   -- ---- visits that don't stay
 

@@ -26,16 +26,19 @@ use Rattle.office_parts.proofs.{Orders.numbers_told, AwayLemmas.{with_early, wit
 use Rattle.office_parts.proofs.Writings.{next_adds, runs_written, own_office_without}
 use Rattle.office_desk.specs.{Answers.{AnswersNext, answer_at, answer_by_model, answer_to, code_of}, Calls.Leads, Desks.IsSound, Offices.DeskHolds}
 use Rattle.office_desk.specs.{Kept.{AnswersAt, AnswersOver, Office, TakesIn}, Leaving.{IsTakenInto, LeavesOver}, declared.desk.Desk.Desk}
-use Rattle.office_desk.{specs.Reports.{TellsOf, partner_called, ticket_if_taken, ticket_of}, proofs.HoldLemmas.either_of}
+use Rattle.office_desk.specs.Reports.{partner_called, ticket_if_taken, ticket_of}
+use Rattle.office_desk.proofs.HoldLemmas.{either_of}
 use Rattle.office_desk.proofs.DeliverLemmas.{parties_same, own_once, shown_by_own}
 use Rattle.office_archives.specs.Standing.{IsOwnWithRest, KnowsClosed, StandsBeside, IsBeyond, NamesNoneAway, DeliveriesBeyondAreAnswered}
 use Rattle.office_archives.specs.{Together.{IsBesideAfter, LeavesBeside, LeavesDelivered}, Closed.{closed_contrl, closed_reply, closed_ticket}}
-use Rattle.office_archives.specs.{Copies.{AreCopies, IsCopy}, Keeping.{IsClosedIn, IsTicketIn, IsTicketOf}, Telling.{IsOfNumber, TellsClosed, TellsTogether}}
-use Rattle.office_archives.proofs.{Filled.{run_is_own, taken_alike, texts_own, waiting_is_own, of_whole}, StayedTold.found_in_turn}
-use Rattle.office_archives.proofs.ClosedTold.{closed_replies, closed_tickets}
-use Rattle.office_reports.specs.{declared.query.Query.Query, Tickets.ticket_text}
+use Rattle.office_archives.{specs.{Copies.{AreCopies, IsCopy}, Keeping.{IsClosedIn, IsTicketIn, IsTicketOf}}, proofs.StayedTold.found_in_turn}
+use Rattle.office_archives.specs.Telling.{ClosedTells, IsOfNumber, TellsClosed, TellsTogether, TogetherTells}
+use Rattle.office_archives.proofs.{Filled.{run_is_own, taken_alike, texts_own, waiting_is_own, of_whole}, ClosedTold.{closed_replies, closed_tickets}}
+use Rattle.office_reports.specs.{declared.query.About.About, declared.query.Query.Query, declared.query.View.View, Tickets.ticket_of as told_ticket}
+use Rattle.office_report_data.specs.Told.{shown}
+use Rattle.office_report_data.specs.Told as value
 use Rattle.office_replies.specs.declared.deliver.Response.TheVariants as response
-use Rattle.office_reports.specs.declared.query.Query.TheVariants as query
+use Rattle.office_reports.specs.declared.query.About.TheVariants as about
 
 -- ---- the machine
 
@@ -353,7 +356,7 @@ found_if_told f (Some x) e = refl
 
 -- ---- the ticket of a copy
 
-module _ (content : SetupContent) (es : List Event) (given : IsGiven content) (closed_before : ℕ → ℕ) (archive : Archive) (copy : IsCopy content es closed_before archive) (code : List ℕ) (p n : ℕ) (ticket : List ℕ) (is : IsTicketOf archive.rows code p n ticket) where
+module _ (content : SetupContent) (es : List Event) (given : IsGiven content) (closed_before : ℕ → ℕ) (archive : Archive) (copy : IsCopy content es closed_before archive) (code : List ℕ) (p n : ℕ) (view : View) (ticket : List ℕ) (is : IsTicketOf archive.rows code p n view ticket) where
   abbrev theirs : TerminalState
   theirs = without_lists copy.away (own_terminal copy.archived.stays (machine_after content copy.earlier).terminal)
 
@@ -374,11 +377,11 @@ module _ (content : SetupContent) (es : List Event) (given : IsGiven content) (c
   visits_are : archive.rows.visits ≡ is.terminal.visits
   visits_are = ap (λ (r : Rows). r.visits) copy.is_own ∙ copy.parts.parts.visits ∙ ap (own_visits copy.archived.stays) (visits_same content copy.earlier copy.whole copy.parts.after) ∙ ap (λ (t : TerminalState). t.visits) (sym terminal_is)
 
-  copy_ticket : ticket_of archive.rows.visits archive.rows code n (Some p) ≡ Some ticket
+  copy_ticket : option_map (shown view) (ticket_of archive.rows.visits archive.rows code n (Some p)) ≡ Some ticket
   copy_ticket =
       let mine : Source = record { partner = p; number = n } in
-      ap (ticket_if_taken archive.rows.visits code p n) (some_of (reply_in archive.rows p n) is.taken).1
-      ∙ ap (λ visits. Some (ticket_text code mine visits)) visits_are ∙ ap Some (sym is.tells)
+      ap (λ reply. option_map (shown view) (ticket_if_taken archive.rows.visits code p n reply)) (some_of (reply_in archive.rows p n) is.taken).1
+      ∙ ap (λ visits. Some (shown view (value.ticket (told_ticket code mine visits)))) visits_are ∙ ap Some (sym is.tells)
 
 -- ---- a number that is closed
 
@@ -387,24 +390,28 @@ module _ (content : SetupContent) (es : List Event) (archives : List Archive) (a
   pub closed_here : IsClosedIn archives p n
   closed_here = (low, found_if_told (λ (archive : Archive). reply_in archive.rows p n) (archive_of archives p n) (ap is_some (hold.replies p n low high) ∙ are.closed.replied p n low high))
 
-  ticket_here : (ticket : List ℕ) → AreCopies content es (λ partner. 0) archives → IsTicketIn archives code p n ticket → closed_ticket archives code p n ≡ Some ticket
-  ticket_here ticket copies is =
+  ticket_here : (view : View) (ticket : List ℕ) → AreCopies content es (λ partner. 0) archives → IsTicketIn archives code p n view ticket → option_map (shown view) (closed_ticket archives code p n) ≡ Some ticket
+  ticket_here view ticket copies is =
       let found = some_of (archive_of archives p n) closed_here.1 in
       let for = found_in_turn (IsCopy content es) p n (λ partner. 0) archives found.0 copies (omega (arith, low)) found.1 in
-      ap (option_and_then (λ (archive : Archive). ticket_of archive.rows.visits archive.rows code n (Some p))) found.1
-      ∙ copy_ticket content es given for.closed_before found.0 for.stands code p n ticket (is low found.0 found.1)
+      ap (λ o. option_map (shown view) (option_and_then (λ (archive : Archive). ticket_of archive.rows.visits archive.rows code n (Some p)) o)) found.1
+      ∙ copy_ticket content es given for.closed_before found.0 for.stands code p n view ticket (is low found.0 found.1)
 
-  pub closed_told : (asked : Query) (found : Option (List ℕ)) → IsOfNumber asked code n → TellsClosed archives asked code p n found → TellsTogether content es archives archived whole asked found
-  closed_told (query.Reply partner k) found is told = λ _.
+  closed_shown : (asked : About) (view : View) (found : Option (List ℕ)) → IsOfNumber asked code n → ClosedTells archives asked view code p n found → TogetherTells content es archives archived whole asked view found
+  closed_shown (about.Reply partner k) view found is told = λ _.
       let law = closed_replies content es archives archived own whole partner p k are hold (ap (partner_called (content_after content es)) is.0 ∙ called) (omega (arith, low, is.1)) (omega (arith, high, is.1)) in
-      let same : closed_reply archives (string_bytes partner) p k ≡ found = (λ i. closed_reply archives (is.0 i) p (is.1 i)) ∙ sym told in
-      record { rows = whole; after = are.after; tells = subst (TellsOf (content_after content es) (machine_after content es).terminal whole (query.Reply partner k)) same law.reply }
-  closed_told (query.Contrl partner k) found is told = λ _.
+      let same : option_map (shown view) (closed_reply archives (string_bytes partner) p k) ≡ found = (λ i. option_map (shown view) (closed_reply archives (is.0 i) p (is.1 i))) ∙ sym told in
+      (closed_reply archives (string_bytes partner) p k, record { rows = whole; after = are.after; tells = law.reply }, sym same)
+  closed_shown (about.Contrl partner k) view found is told = λ _.
       let law = closed_replies content es archives archived own whole partner p k are hold (ap (partner_called (content_after content es)) is.0 ∙ called) (omega (arith, low, is.1)) (omega (arith, high, is.1)) in
-      let same : closed_contrl archives p k ≡ found = ap (closed_contrl archives p) is.1 ∙ sym told in
-      record { rows = whole; after = are.after; tells = subst (TellsOf (content_after content es) (machine_after content es).terminal whole (query.Contrl partner k)) same law.contrl }
-  closed_told (query.Ticket partner k) found is told = λ _ by_numbers copies.
+      let same : option_map (shown view) (closed_contrl archives (string_bytes partner) p k) ≡ found = (λ i. option_map (shown view) (closed_contrl archives (is.0 i) p (is.1 i))) ∙ sym told in
+      (closed_contrl archives (string_bytes partner) p k, record { rows = whole; after = are.after; tells = law.contrl }, sym same)
+  closed_shown (about.Ticket partner k) view found is told = λ _ by_numbers copies.
       let law = closed_tickets content es archives archived own whole partner p k are hold copies (ap (partner_called (content_after content es)) is.0 ∙ called) (omega (arith, low, is.1)) (omega (arith, high, is.1)) in
-      let same : closed_ticket archives (string_bytes partner) p k ≡ found = (λ i. closed_ticket archives (is.0 i) p (is.1 i)) ∙ ticket_here told.0 copies told.1 ∙ sym told.2 in
-      record { rows = whole; after = are.after; tells = subst (TellsOf (content_after content es) (machine_after content es).terminal whole (query.Ticket partner k)) same law }
-  closed_told other found is told = absurd is
+      let same : option_map (shown view) (closed_ticket archives (string_bytes partner) p k) ≡ found =
+      (λ i. option_map (shown view) (closed_ticket archives (is.0 i) p (is.1 i))) ∙ ticket_here view told.0 copies told.1 ∙ sym told.2 in
+      (closed_ticket archives (string_bytes partner) p k, record { rows = whole; after = are.after; tells = law }, sym same)
+  closed_shown other view found is told = absurd is
+
+  pub closed_told : (asked : Query) (found : Option (List ℕ)) → IsOfNumber asked.about code n → TellsClosed archives asked code p n found → TellsTogether content es archives archived whole asked found
+  closed_told asked found is told = closed_shown asked.about asked.view found is told

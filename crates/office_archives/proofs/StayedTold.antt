@@ -1,6 +1,7 @@
 -- Reports of containers, by the store's own rows and by the whole.
-use Rattle.std.specs.{Prelude.{Contains, filter, not, string_bytes, codes, decimal, find, reverse}, Option.{option_and_then, option_or}}
-use Rattle.std.{specs.{List.{flat_map, list_any}, Cmp.Lexicographic.bytes_decides}, proofs.{lemmas.Bool.{leb-true, le-leb, cases_lt}, lemmas.Option.same_Some}}
+use Rattle.std.specs.Prelude.{Contains, filter, not, string_bytes, find, reverse}
+use Rattle.std.specs.Option.{option_map, option_or}
+use Rattle.std.{specs.Cmp.Lexicographic.bytes_decides, proofs.{lemmas.Bool.{leb-true, le-leb, cases_lt}, lemmas.Option.same_Some}}
 use Rattle.std.proofs.Common.{◌≡◌, ℕ, ◌<◌, ◌≤◌, inl, inr, List, [], ◌∷◌, nat_le, Bool, true, false, cond, Option, Some, refl, sym, ap, subst, ◌∙◌, arith, ◌++◌, None, append_assoc, ◌&&◌, ◌||◌, is_some}
 use Rattle.std.proofs.{lemmas.List.{append-nil, reverse-append}, lemmas.List.Folds.find-append}
 use Rattle.terminal_core.specs.{declared.change.Source.Source, declared.visits.Departure.Departure, Rows.VisitContent}
@@ -15,15 +16,18 @@ use Rattle.office_parts.{specs.OwnTerminal.{is_own, own_terminal, own_visits, Ma
 use Rattle.office_parts.proofs.{Splits.{contained_has, had_both, had_filtered, has_contained, open_kept}, Orders.{body_there, found_beyond, reply_there}}
 use Rattle.office_archives.specs.{Copies.{GoByNumbers, IsCopy, AreInTurn}, Visits.{visits_by, IsWithin, HasLeftWithin, IsVisitWithin}}
 use Rattle.office_archives.specs.Laws.{ArchivesTellVisits, ClosingsGoByNumbers, CopiesOfNowAreCopies, CopiesStay, ClosingsAddCopies, NumbersBeyondAreToldAlike, ContainersAreTold, VisitsAreTold}
-use Rattle.office_archives.specs.{Beyond.{IsBeyond, IsOfNumberBeyond}, Stayed.{visits_of, report_with, GoOldestFirst, stays_if_any, container_if_there}}
-use Rattle.office_archives.proofs.{Sources.{same_stayed, other_visit, same_lines}, Later.{later_leave_visits, migration_on, visits_of_taken}}
+use Rattle.office_archives.{specs.Beyond.{IsBeyond, IsOfNumberBeyond}, proofs.Sources.{same_stayed, other_visit, tickets_alike}}
+use Rattle.office_archives.specs.Stayed.{visits_of, report_with, GoOldestFirst, stays_if_any, stands_in, container_if_there, container_with}
+use Rattle.office_archives.proofs.Later.{later_leave_visits, migration_on, visits_of_taken}
 use Rattle.partner_core.{specs.Deliveries.run, proofs.Orders.option_or-none}
 use Rattle.office_tables.specs.Answers.{IsNextOf}
-use Rattle.office_reports.specs.{declared.query.Query.Query, Contrls.contrl_in, Names.line, Tickets.ticket_lines, Visits.{visit_line, visits_text}}
-use Rattle.office_reports.specs.{Yard.slot_in, Containers.{container_report, gone_report, report_by}}
-use Rattle.office_desk.specs.Reports.{contrl_for_partner, partner_called, ticket_if_taken, ticket_of, TellsOf, TellsReply, TellsReplyOf}
+use Rattle.office_reports.specs.{declared.query.About.About, OpenLines.open_lines, Visits.visits_by as reported_by, Yard.slot_in}
+use Rattle.office_reports.specs.Containers.{ContainerContent, container_of, found_by, gone_by}
+use Rattle.office_report_data.specs.Told.{ReportContent, shown}
+use Rattle.office_desk.specs.Reports.{AreShownAlike, container_by, container_told as told_container, contrl_for_partner, contrl_told, partner_called, ticket_if_taken, ticket_of, TellsAbout, TellsReply, TellsReplyOf}
 use Rattle.box6346.specs.{declared.box_number.BoxNumber.BoxNumber, declared.slot.Slot.Slot}
-use Rattle.office_reports.specs.declared.query.Query.TheVariants as query
+use Rattle.office_report_data.specs.Told as value
+use Rattle.office_reports.specs.declared.query.About.TheVariants as about
 
 -- ==== Archived: What archives tell of numbers that are closed.
 
@@ -166,7 +170,7 @@ module _ (content : SetupContent) (es : List Event) (archived : Archived) (own w
 
   -- ---- replies
 
-  moved_next : (code : List ℕ) (p n : ℕ) (text reply found : Option (List ℕ)) → TellsReply own code p n text reply found → TellsReply whole code p n text reply found
+  moved_next : (code : List ℕ) (p n : ℕ) (text reply : Option (List ℕ)) (found : Option ReportContent) → TellsReply own code p n text reply found → TellsReply whole code p n text reply found
   moved_next code p n None reply found told = told
   moved_next code p n (Some text) reply found told = (told.0, subst (λ partners. IsNextOf p (record whole { partners = partners }) told.0) (sym are.parts.partners) told.1, told.2)
 
@@ -176,45 +180,45 @@ module _ (content : SetupContent) (es : List Event) (archived : Archived) (own w
   reply_same : (p n : ℕ) → archived.last_closed p < n → reply_in own p n ≡ reply_in whole p n
   reply_same p n far = ap reply_there (sym (found_beyond archived own whole p n are.closed are.parts far))
 
-  reply_told : (code : List ℕ) (n : ℕ) (partner : Option ℕ) (found : Option (List ℕ)) → IsBeyond archived.last_closed partner n → TellsReplyOf own code n partner found → TellsReplyOf whole code n partner found
+  reply_told : (code : List ℕ) (n : ℕ) (partner : Option ℕ) (found : Option ReportContent) → IsBeyond archived.last_closed partner n → TellsReplyOf own code n partner found → TellsReplyOf whole code n partner found
   reply_told code n None found far told = told
   reply_told code n (Some p) found far told =
       moved_next code p n (text_in whole p n) (reply_in whole p n) found
       (subst (λ reply. TellsReply own code p n (text_in whole p n) reply found) (reply_same p n far)
       (subst (λ text. TellsReply own code p n text (reply_in own p n) found) (text_same p n far) told))
 
-  contrl_told : (n : ℕ) (partner : Option ℕ) → IsBeyond archived.last_closed partner n → contrl_for_partner own n partner ≡ contrl_for_partner whole n partner
-  contrl_told n None far = refl
-  contrl_told n (Some p) far = ap (option_and_then contrl_in) (reply_same p n far)
+  contrl_same : (code : List ℕ) (n : ℕ) (partner : Option ℕ) → IsBeyond archived.last_closed partner n → contrl_for_partner own code n partner ≡ contrl_for_partner whole code n partner
+  contrl_same code n None far = refl
+  contrl_same code n (Some p) far = ap (contrl_told code n) (reply_same p n far)
 
   -- ---- tickets
 
-  lines_told : (p n : ℕ) → archived.last_closed p < n → ticket_lines (record { partner = p; number = n }) (own_visits archived.stays state_visits) ≡ ticket_lines (record { partner = p; number = n }) state_visits
-  lines_told p n far =
+  visits_known : (p n : ℕ) → archived.last_closed p < n → visits_by (record { partner = p; number = n }) (own_visits archived.stays state_visits) ≡ visits_by (record { partner = p; number = n }) state_visits
+  visits_known p n far =
       let mine : Source = record { partner = p; number = n } in
       let state_is = visits_same content es whole are.after in
       let own_is : own.visits ≡ own_visits archived.stays state_visits = are.parts.visits ∙ ap (own_visits archived.stays) state_is in
-      same_lines mine (own_visits archived.stays state_visits)
-      ∙ ap (ticket_lines mine) (ap (visits_by mine) (sym own_is) ∙ own_tells content es archived own whole mine are by_numbers far ∙ ap (visits_by mine) state_is)
-      ∙ sym (same_lines mine state_visits)
+      ap (visits_by mine) (sym own_is) ∙ own_tells content es archived own whole mine are by_numbers far ∙ ap (visits_by mine) state_is
 
-  taken_told : (code : List ℕ) (p n : ℕ) (reply : Option (List ℕ)) → archived.last_closed p < n → ticket_if_taken (own_visits archived.stays state_visits) code p n reply ≡ ticket_if_taken state_visits code p n reply
-  taken_told code p n None far = refl
-  taken_told code p n (Some reply) far = ap (λ lines. Some (line (codes "TICKET" ∷ code ∷ decimal n ∷ []) ++ lines)) (lines_told p n far)
+  taken_told : (code : List ℕ) (p n : ℕ) (reply : Option (List ℕ)) → archived.last_closed p < n → AreShownAlike (ticket_if_taken (own_visits archived.stays state_visits) code p n reply) (ticket_if_taken state_visits code p n reply)
+  taken_told code p n None far view = refl
+  taken_told code p n (Some reply) far view =
+      ap Some (tickets_alike (record { partner = p; number = n }) code (own_visits archived.stays state_visits) state_visits (visits_known p n far) view)
 
-  ticket_told : (code : List ℕ) (n : ℕ) (partner : Option ℕ) → IsBeyond archived.last_closed partner n → ticket_of (own_visits archived.stays state_visits) own code n partner ≡ ticket_of state_visits whole code n partner
-  ticket_told code n None far = refl
-  ticket_told code n (Some p) far = ap (ticket_if_taken (own_visits archived.stays state_visits) code p n) (reply_same p n far) ∙ taken_told code p n (reply_in whole p n) far
+  ticket_told : (code : List ℕ) (n : ℕ) (partner : Option ℕ) → IsBeyond archived.last_closed partner n → AreShownAlike (ticket_of (own_visits archived.stays state_visits) own code n partner) (ticket_of state_visits whole code n partner)
+  ticket_told code n None far view = refl
+  ticket_told code n (Some p) far view =
+      ap (λ reply. option_map (shown view) (ticket_if_taken (own_visits archived.stays state_visits) code p n reply)) (reply_same p n far) ∙ taken_told code p n (reply_in whole p n) far view
 
-  told : (asked : Query) (found : Option (List ℕ)) → IsOfNumberBeyond (content_after content es) archived.last_closed asked
-      → TellsOf (content_after content es) (own_terminal archived.stays (machine_after content es).terminal) own asked found → TellsOf (content_after content es) (machine_after content es).terminal whole asked found
-  told (query.Reply code n) found far tells = reply_told (string_bytes code) n (partner_called (content_after content es) (string_bytes code)) found far tells
-  told (query.Contrl code n) found far tells = tells ∙ contrl_told n (partner_called (content_after content es) (string_bytes code)) far
-  told (query.Ticket code n) found far tells = tells ∙ ticket_told (string_bytes code) n (partner_called (content_after content es) (string_bytes code)) far
-  told other found far tells = absurd far
+  told : (asked : About) (what : Option ReportContent) → IsOfNumberBeyond (content_after content es) archived.last_closed asked
+      → TellsAbout (content_after content es) (own_terminal archived.stays (machine_after content es).terminal) own asked what → TellsAbout (content_after content es) (machine_after content es).terminal whole asked what
+  told (about.Reply code n) what far tells = reply_told (string_bytes code) n (partner_called (content_after content es) (string_bytes code)) what far tells
+  told (about.Contrl code n) what far tells = tells ∙ contrl_same (string_bytes code) n (partner_called (content_after content es) (string_bytes code)) far
+  told (about.Ticket code n) what far tells = λ view. tells view ∙ ticket_told (string_bytes code) n (partner_called (content_after content es) (string_bytes code)) far view
+  told other what far tells = absurd far
 
 pub beyond_told : NumbersBeyondAreToldAlike
-beyond_told content es archived own whole asked found are by_numbers far tells = told content es archived own whole are by_numbers asked found far tells
+beyond_told content es archived own whole asked what are by_numbers far tells = told content es archived own whole are by_numbers asked what far tells
 
 -- ==== StayedTold: Reports of containers, by the store's own rows and by the whole.
 
@@ -236,39 +240,13 @@ module _ (stays : ℕ → Bool) (now : SetupContent) (container : BoxNumber) whe
       by false true e f rest = rest ∙ sym (ap (λ b. cond b (v ∷ own_visits stays (visits_of container visits)) (own_visits stays (visits_of container visits))) e)
       by false false e f rest = rest
 
-  any_of : (visits : List VisitContent) → cond (list_any (is_visit_of container) visits) (Some (visits_text now container visits)) None ≡ report_with now container (visits_of container visits)
-  any_of visits = by visits (visits_of container visits) refl
-    where
-      none : (visits : List VisitContent) → visits_of container visits ≡ [] → list_any (is_visit_of container) visits ≡ false
-      none [] e = refl
-      none (v ∷ visits) e = step (is_visit_of container v) e (none visits)
-        where
-          step : (is : Bool) → cond is (v ∷ visits_of container visits) (visits_of container visits) ≡ [] → (visits_of container visits ≡ [] → list_any (is_visit_of container) visits ≡ false) → (is || list_any (is_visit_of container) visits) ≡ false
-          step true e rest = cc
-          step false e rest = rest e
-
-      some : (visits : List VisitContent) (first : VisitContent) (others : List VisitContent) → visits_of container visits ≡ first ∷ others → list_any (is_visit_of container) visits ≡ true
-      some [] first others e = cc
-      some (v ∷ visits) first others e = step (is_visit_of container v) e (some visits first others)
-        where
-          step : (is : Bool) → cond is (v ∷ visits_of container visits) (visits_of container visits) ≡ first ∷ others → (visits_of container visits ≡ first ∷ others → list_any (is_visit_of container) visits ≡ true) → (is || list_any (is_visit_of container) visits) ≡ true
-          step true e rest = refl
-          step false e rest = rest e
-
-      by : (visits of_it : List VisitContent) → visits_of container visits ≡ of_it → cond (list_any (is_visit_of container) visits) (Some (visits_text now container visits)) None ≡ report_with now container of_it
-      by visits [] e = ap (λ b. cond b (Some (visits_text now container visits)) None) (none visits e)
-      by visits (first ∷ others) e =
-          ap (λ b. cond b (Some (visits_text now container visits)) None) (some visits first others e)
-          ∙ ap (λ l. Some (line (codes "VISITS" ∷ container ∷ []) ++ flat_map (visit_line now) l)) e
-
 pub visits_told : VisitsAreTold
-visits_told content es archives archived own whole container found are hold told =
+visits_told content es archives archived own whole container what are hold told =
     let now : SetupContent = content_after content es in
     let visits : List VisitContent = (machine_after content es).terminal.visits in
     let state_is = visits_same content es whole are.after in
     record {
-      whole = any_of archived.stays now container visits;
-      told = told ∙ any_of archived.stays now container (own_visits archived.stays visits) ∙ ap (report_with now container) (stayed_of archived.stays now container visits);
+      is = told ∙ ap (report_with now container) (stayed_of archived.stays now container visits);
       others = λ visit inside gone.
           let has = had_filtered (is_visit_of container) visits visit (has_contained (visits_of container visits) visit inside) in
           hold.visits visit ((are.parts.others visit).1 (subst (λ l. Contains l visit) (sym state_is) (contained_has visits visit has.0), gone));
@@ -344,24 +322,40 @@ module _ (stays : ℕ → Bool) (container : BoxNumber) where
           rest ∙ ap if_stays g ∙ none_left (is_visit_of container v) v e ∙ sym (ap (λ o. if_stays (option_or o (cond (is_visit_of container v) (Some v) None))) g)
 
 module _ (stays : ℕ → Bool) (now : SetupContent) (state : TerminalState) (container : BoxNumber) (may : MayStay stays state.visits) (first : GoOldestFirst stays state.visits) where
-  gone_if : (b : Bool) (o : Option VisitContent) → gone_report now container (cond b o None) ≡ cond b (gone_report now container o) None
+  gone_if : (b : Bool) (o : Option VisitContent) → gone_by now container (cond b o None) ≡ cond b (gone_by now container o) None
   gone_if true o = refl
   gone_if false o = refl
 
-  gone_told : gone_report now container (last_visit (own_terminal stays state) container) ≡ cond (stays_if_any stays (last_visit state container)) (gone_report now container (last_visit state container)) None
-  gone_told = ap (gone_report now container) (last_stayed stays container state.visits first) ∙ gone_if (stays_if_any stays (last_visit state container)) (last_visit state container)
+  gone_told : gone_by now container (last_visit (own_terminal stays state) container) ≡ cond (stays_if_any stays (last_visit state container)) (gone_by now container (last_visit state container)) None
+  gone_told = ap (gone_by now container) (last_stayed stays container state.visits first) ∙ gone_if (stays_if_any stays (last_visit state container)) (last_visit state container)
 
-  by_stand : (o : Option VisitContent) (s : Option Slot) → report_by now (own_terminal stays state) container o s
-      ≡ cond ((is_some o && is_some s) || stays_if_any stays (last_visit state container)) (report_by now state container o s) None
+  by_stand : (o : Option VisitContent) (s : Option Slot) → found_by now (own_terminal stays state) container o s
+      ≡ cond ((is_some o && is_some s) || stays_if_any stays (last_visit state container)) (found_by now state container o s) None
   by_stand (Some visit) (Some slot) = refl
   by_stand (Some visit) None = gone_told
   by_stand None s = gone_told
 
-  pub container_told : container_report now (own_terminal stays state) container ≡ container_if_there now stays state container
-  container_told = ap (λ o. report_by now (own_terminal stays state) container o (slot_in state container)) (open_kept stays container state.visits may.over) ∙ by_stand (open_visit state container) (slot_in state container)
+  told_if : (b : Bool) (o : Option ContainerContent) → option_map (container_with now stays state container) (cond b o None) ≡ cond b (option_map (container_with now stays state container) o) None
+  told_if true o = refl
+  told_if false o = refl
+
+  -- its visits are those that stay
+  with_stayed : (report : ContainerContent) → container_by now (own_terminal stays state) container report ≡ container_with now stays state container report
+  with_stayed report = ap (λ visits. value.container report (open_lines state.lines container) (reported_by now container visits)) (stayed_of stays now container state.visits)
+
+  all_stayed : (o : Option ContainerContent) → option_map (container_by now (own_terminal stays state) container) o ≡ option_map (container_with now stays state container) o
+  all_stayed None = refl
+  all_stayed (Some report) = ap Some (with_stayed report)
+
+  pub container_stayed : told_container now (own_terminal stays state) container ≡ container_if_there now stays state container
+  container_stayed =
+      all_stayed (container_of now (own_terminal stays state) container)
+      ∙ ap (option_map (container_with now stays state container))
+      (ap (λ o. found_by now (own_terminal stays state) container o (slot_in state container)) (open_kept stays container state.visits may.over) ∙ by_stand (open_visit state container) (slot_in state container))
+      ∙ told_if (stands_in state container || stays_if_any stays (last_visit state container)) (container_of now state container)
 
 pub containers_told : ContainersAreTold
-containers_told content es archived own whole container found are first told =
+containers_told content es archived own whole container what are first told =
     let state : TerminalState = (machine_after content es).terminal in
     let state_is = visits_same content es whole are.after in
-    told ∙ container_told archived.stays (content_after content es) state container (subst (MayStay archived.stays) state_is are.stay) (subst (GoOldestFirst archived.stays) state_is first)
+    told ∙ container_stayed archived.stays (content_after content es) state container (subst (MayStay archived.stays) state_is are.stay) (subst (GoOldestFirst archived.stays) state_is first)

@@ -12,22 +12,24 @@ use Rattle.office_replies.specs.Events.{Event}
 use Rattle.office_rows.specs.Rows.{Interchange, Rows, ListingContent}
 use Rattle.office_tables.specs.Answers.{has_id, IsNextOf}
 use Rattle.office_loading.specs.Waiting.{is_waiting, waiting_numbers}
-use Rattle.office_reports.specs.{declared.query.Query.Query, Contrls.contrl_in, Partners.PartnerContent}
+use Rattle.office_reports.specs.{declared.query.About.About, declared.query.Query.Query, declared.query.View.View, Partners.PartnerContent}
+use Rattle.office_report_data.specs.Told.{ReportContent, shown}
 use Rattle.office_history.{specs.{After.{content_after, machine_after, reply_in}, Cascade.text_in}, proofs.Accounted.next_follows}
 use Rattle.office_parts.specs.{Archives.{Archive, Hold, archive_of}, Closing.{is_beyond, is_closed}, OwnTerminal.own_terminal, Parts.{Archived, ArePartsAfter}}
 use Rattle.office_parts.{specs.{Away.lines_away, OwnLists.{ListName, list_name}}, proofs.{LeftOver.told_alike as beyond_alike, AwayLemmas.away_with}}
 use Rattle.office_parts.proofs.Orders.{body_there, closed_within, found_beyond, reply_there}
-use Rattle.office_desk.specs.Reports.{AreLookedUp, IsLookedUp, TellsAfter, TellsNext, TellsOf, TellsPartner, TellsReply, TellsReplyOf, contrl_for_partner, partner_called, ticket_if_taken, ticket_of}
-use Rattle.office_archives.specs.{Beyond.IsBeyond, Counted.IsOfPartners, Reporting.IsOfWhatStands, Standing.IsOwnWithRest}
-use Rattle.office_archives.specs.Telling.{IsOfContainer, IsOfList, IsOfNeither, IsOfNumber, TellsTogether, with_archives}
-use Rattle.office_archives.{specs.Shelves.{HasLists, IsKeptAs, IsOfCall, NamesAll, NamesOneMore, archive_at}, proofs.Moves.{metrics_told, partners_told}}
-use Rattle.office_archives.proofs.StayedTold.{beyond_told, containers_told, visits_told}
+use Rattle.office_desk.specs.Reports.{AreLookedUp, IsLookedUp, Shows, TellsAbout, TellsAfter, TellsNext, TellsOf, TellsPartner, TellsReply, TellsReplyOf, contrl_for_partner, contrl_told, partner_called, ticket_if_taken, ticket_of}
+use Rattle.office_desk.proofs.Values.{text_shown}
+use Rattle.office_archives.specs.{Beyond.IsBeyond, Counted.{IsOfPartners, TellsOwnMetrics}, Reporting.IsOfWhatStands, Standing.IsOwnWithRest}
+use Rattle.office_archives.specs.Telling.{IsOfContainer, IsOfList, IsOfNeither, IsOfNumber, TellsTogether, TogetherTells, shown_beside}
+use Rattle.office_archives.specs.Shelves.{HasLists, IsKeptAs, IsOfCall, NamesAll, NamesOneMore, archive_at}
+use Rattle.office_archives.proofs.{StayedTold.{beyond_told, containers_told, visits_told}, Moves.{all_looked_up as whole_looked_up, metrics_told, partners_told}}
 use Rattle.office_archives.proofs.Rising.{all_among, all_later_put, told_alike, put_told, puts_up_to, rises, up_to_most}
 use Rattle.edi_syntax.specs.Numbers.{last_number}
 use Rattle.office_closing.specs.{Changes.closed_with, Lists.{SettledListContent, lines_of_list, lists_among, put_lists}, declared.register.Segment.Segment}
 use Rattle.office_closing.specs.Register.{ArchiveContent, RegisterContent, is_of, last_closed, reaches, SealedContent}
 use Rattle.office_closing.specs.Sound.{are_in_order, are_rising, are_sound_archives, are_sound_segments, are_sound_sealed, are_sound_taken, close_more, is_sound, is_sound_mark, is_within, may_be_list}
-use Rattle.office_reports.specs.declared.query.Query.TheVariants as query
+use Rattle.office_reports.specs.declared.query.About.TheVariants as about
 use Rattle.office_parts.specs.Archives as parts
 
 -- ---- closed interchanges wait for nothing
@@ -105,9 +107,9 @@ module _ (content : SetupContent) (es : List Event) (archives : List Archive) (a
   all_looked_up id (account ∷ accounts) [] all = absurd all
   all_looked_up id (account ∷ accounts) (partner ∷ partners) all = (looked_up id account partner all.0, all_looked_up (id + 1) accounts partners all.1)
 
-  partner_own : (accounts : List (List ℕ × PartnerKind)) (id : Option ℕ) (found : Option (List ℕ)) → TellsPartner rows accounts id found → TellsPartner own accounts id found
-  partner_own accounts None found told = told
-  partner_own accounts (Some id) found told = (told.0, told.1, (told.2.0, looked_up id told.0 told.2.0 told.2.1, told.2.2))
+  partner_own : (accounts : List (List ℕ × PartnerKind)) (id : Option ℕ) (what : Option ReportContent) → TellsPartner rows accounts id what → TellsPartner own accounts id what
+  partner_own accounts None what told = told
+  partner_own accounts (Some id) what told = (told.0, told.1, (told.2.0, looked_up id told.0 told.2.0 told.2.1, told.2.2))
 
   next_told : (id : Option ℕ) (found : Option (List ℕ)) → TellsNext rows id found → TellsNext own id found
   next_told None found told = told
@@ -115,41 +117,61 @@ module _ (content : SetupContent) (es : List Event) (archives : List Archive) (a
 
   -- ---- what the store's rows tell as the whole
 
-  by_whole : (asked : Query) (found : Option (List ℕ)) → TellsOf now state whole asked found → TellsAfter content es asked found
-  by_whole asked found tells = record { rows = whole; after = are.after; tells = tells }
+  by_whole : (asked : About) (what : Option ReportContent) → TellsAbout now state whole asked what → TellsAfter content es asked what
+  by_whole asked what tells = record { rows = whole; after = are.after; tells = tells }
 
-  standing : (asked : Query) (found : Option (List ℕ)) → IsOfWhatStands asked → TellsOf now mine own asked found → TellsAfter content es asked found
-  standing asked found is told = by_whole asked found (told_alike content es archived own whole asked found are is told)
+  standing : (asked : About) (view : View) (what : Option ReportContent) → IsOfWhatStands asked → TellsAbout now mine own asked what → Shows (TellsAfter content es asked) view (option_map (shown view) what)
+  standing asked view what is told = (what, by_whole asked what (told_alike content es archived own whole asked what are is told), refl)
 
-  counted : (asked : Query) (found : Option (List ℕ)) → IsOfPartners asked → TellsOf now mine own asked found → TellsAfter content es asked found
-  counted asked found is told = by_whole asked found (partners_told content es archived own whole asked found are is told)
+  counted : (asked : About) (view : View) (what : Option ReportContent) → IsOfPartners asked → TellsAbout now mine own asked what → Shows (TellsAfter content es asked) view (option_map (shown view) what)
+  counted asked view what is told = (what, by_whole asked what (partners_told content es archived own whole asked what are is told), refl)
 
   -- it is asked neither of a container, of lists, nor of a number
-  pub others_told : (asked : Query) (found : Option (List ℕ)) → IsOfNeither asked → TellsOf now mine rows asked found → TellsTogether content es archives archived whole asked found
-  others_told query.Yard found is told = standing query.Yard found tt told
-  others_told query.YardTable found is told = standing query.YardTable found tt told
-  others_told query.Picture found is told = standing query.Picture found tt told
-  others_told query.Blocks found is told = standing query.Blocks found tt told
-  others_told (query.Next code) found is told = standing (query.Next code) found tt (next_told (partner_called now (string_bytes code)) found told)
-  others_told query.Partners found is told = counted query.Partners found tt (told.0, all_looked_up 1 now.partners told.0 told.1, told.2)
-  others_told (query.Partner code) found is told = counted (query.Partner code) found tt (partner_own now.partners (partner_called now (string_bytes code)) found told)
-  others_told query.Health found is told = counted query.Health found tt told
-  others_told query.Metrics found is told = metrics_told content es archived own whole found are (told.0, all_looked_up 1 now.partners told.0 told.1, told.2)
-  others_told other found is told = absurd is
+  others_shown : (asked : About) (view : View) (what : Option ReportContent) → IsOfNeither asked → TellsAbout now mine rows asked what → TogetherTells content es archives archived whole asked view (option_map (shown view) what)
+  others_shown about.Yard view what is told = standing about.Yard view what tt told
+  others_shown about.Picture view what is told = standing about.Picture view what tt told
+  others_shown about.Blocks view what is told = standing about.Blocks view what tt told
+  others_shown (about.Block letter) view what is told = standing (about.Block letter) view what tt told
+  others_shown (about.Next code) view what is told =
+      standing (about.Next code) view what tt (told.0, next_told (partner_called now (string_bytes code)) told.0 told.1, told.2)
+  others_shown about.Partners view what is told = counted about.Partners view what tt (told.0, all_looked_up 1 now.partners told.0 told.1, told.2)
+  others_shown (about.Partner code) view what is told =
+      counted (about.Partner code) view what tt (partner_own now.partners (partner_called now (string_bytes code)) what told)
+  others_shown about.Health view what is told = counted about.Health view what tt told
+  others_shown about.Metrics view what is told =
+      let own_told = metrics_told content es archived own whole what are (told.0, (told.1.0, all_looked_up 1 now.partners told.1.0 told.1.1, told.1.2), told.2) in
+      subst (TellsOwnMetrics now archived.stays state whole) (text_shown view own_told.0 ∙ ap (option_map (shown view)) (sym own_told.2)) own_told.1
+  others_shown other view what is told = absurd is
+
+  pub others_told : (asked : Query) (found : Option (List ℕ)) → IsOfNeither asked.about → TellsOf now mine rows asked found → TellsTogether content es archives archived whole asked found
+  others_told asked found is told =
+      subst (TogetherTells content es archives archived whole asked.about asked.view) (sym told.2) (others_shown asked.about asked.view told.0 is told.1)
+
+  -- ---- what the store has itself
+
+  -- the accounts that were looked up are those of the whole
+  pub accounts_told : (partners : List PartnerContent) → AreLookedUp rows 1 now.partners partners → AreLookedUp whole 1 now.partners partners
+  accounts_told partners looked = whole_looked_up content es archived own whole are 1 now.partners partners (all_looked_up 1 now.partners partners looked)
 
   -- ---- lists
 
-  pub list_told : (asked : Query) (found : Option (List ℕ)) (call : CallContent) (side : Side) → IsOfList asked call side → TellsOf now mine rows asked found → TellsTogether content es archives archived whole asked found
-  list_told (query.List asked on) found call side is told = standing (query.List asked on) found tt told
-  list_told (query.Work asked on) found call side is told = standing (query.Work asked on) found tt told
-  list_told other found call side is told = absurd is
+  list_shown : (asked : About) (view : View) (what : Option ReportContent) (call : CallContent) (side : Side) → IsOfList asked call side → TellsAbout now mine rows asked what → TogetherTells content es archives archived whole asked view (option_map (shown view) what)
+  list_shown (about.List asked on) view what call side is told = standing (about.List asked on) view what tt told
+  list_shown (about.Work asked on) view what call side is told = standing (about.Work asked on) view what tt told
+  list_shown other view what call side is told = absurd is
+
+  pub list_told : (asked : Query) (found : Option (List ℕ)) (call : CallContent) (side : Side) → IsOfList asked.about call side → TellsOf now mine rows asked found → TellsTogether content es archives archived whole asked found
+  list_told asked found call side is told =
+      subst (TogetherTells content es archives archived whole asked.about asked.view) (sym told.2) (list_shown asked.about asked.view told.0 call side is told.1)
 
   -- ---- containers
 
-  pub container_told : (asked : Query) (found : Option (List ℕ)) → Hold archives archived → IsOfContainer asked → TellsOf now mine rows asked found → TellsTogether content es archives archived whole asked (with_archives (length archives) found)
-  container_told (query.Visits container) found hold is told = (found, visits_told content es archives archived own whole container found are hold told, refl)
-  container_told (query.Container container) found hold is told = λ oldest. ap (with_archives (length archives)) (containers_told content es archived own whole container found are oldest told)
-  container_told other found hold is told = absurd is
+  pub container_told : (asked : About) (view : View) (what : Option ReportContent) → Hold archives archived → IsOfContainer asked → TellsAbout now mine rows asked what
+      → TogetherTells content es archives archived whole asked view (shown_beside (length archives) view what)
+  container_told (about.Visits container) view what hold is told = (what, visits_told content es archives archived own whole container what are hold told, refl)
+  container_told (about.Container container) view what hold is told =
+      λ oldest. ap (shown_beside (length archives) view) (containers_told content es archived own whole container what are oldest told)
+  container_told other view what hold is told = absurd is
 
   -- ---- numbers beyond
 
@@ -162,11 +184,11 @@ module _ (content : SetupContent) (es : List Event) (archives : List Archive) (a
   reply_same : (p n : ℕ) → closed p < n → reply_in rows p n ≡ reply_in whole p n
   reply_same p n far = reply_own p n far ∙ ap reply_there (sym (found_beyond archived own whole p n are.closed are.parts far))
 
-  moved : (code : List ℕ) (p n : ℕ) (text reply found : Option (List ℕ)) → TellsReply rows code p n text reply found → TellsReply whole code p n text reply found
+  moved : (code : List ℕ) (p n : ℕ) (text reply : Option (List ℕ)) (found : Option ReportContent) → TellsReply rows code p n text reply found → TellsReply whole code p n text reply found
   moved code p n None reply found told = told
   moved code p n (Some text) reply found told = (told.0, (told.1.0, subst (λ partners. Contains (filter (has_id p) partners) told.1.0) (partners_own ∙ sym are.parts.partners) told.1.1, told.1.2), told.2)
 
-  reply_told : (code : List ℕ) (p n : ℕ) (found : Option (List ℕ)) → closed p < n → TellsReplyOf rows code n (Some p) found → TellsReplyOf whole code n (Some p) found
+  reply_told : (code : List ℕ) (p n : ℕ) (found : Option ReportContent) → closed p < n → TellsReplyOf rows code n (Some p) found → TellsReplyOf whole code n (Some p) found
   reply_told code p n found far told =
       moved code p n (text_in whole p n) (reply_in whole p n) found
       (subst (λ reply. TellsReply rows code p n (text_in whole p n) reply found) (reply_same p n far)
@@ -177,32 +199,57 @@ module _ (content : SetupContent) (es : List Event) (archives : List Archive) (a
     called_by other same = ap (partner_called now) same ∙ called
 
     -- the number is not closed
-    pub number_told : (asked : Query) (found : Option (List ℕ)) → IsOfNumber asked code n → closed p < n → TellsOf now mine rows asked found → TellsTogether content es archives archived whole asked found
-    number_told (query.Reply partner k) found is far told = λ low.
+    number_shown : (asked : About) (view : View) (what : Option ReportContent) → IsOfNumber asked code n → closed p < n → TellsAbout now mine rows asked what
+        → TogetherTells content es archives archived whole asked view (option_map (shown view) what)
+    number_shown (about.Reply partner k) view what is far told = λ low.
         let here = called_by (string_bytes partner) is.0 in
         let above : closed p < k = omega (arith, far, is.1) in
-        by_whole (query.Reply partner k) found
-        (subst (λ o. TellsReplyOf whole (string_bytes partner) k o found) (sym here)
-        (reply_told (string_bytes partner) p k found above (subst (λ o. TellsReplyOf rows (string_bytes partner) k o found) here told)))
-    number_told (query.Contrl partner k) found is far told = λ low.
+        let whole_told : TellsReplyOf whole (string_bytes partner) k (partner_called now (string_bytes partner)) what =
+        subst (λ o. TellsReplyOf whole (string_bytes partner) k o what) (sym here)
+        (reply_told (string_bytes partner) p k what above (subst (λ o. TellsReplyOf rows (string_bytes partner) k o what) here told)) in
+        (what, by_whole (about.Reply partner k) what whole_told, refl)
+    number_shown (about.Contrl partner k) view what is far told = λ low.
         let here = called_by (string_bytes partner) is.0 in
         let above : closed p < k = omega (arith, far, is.1) in
-        by_whole (query.Contrl partner k) found
-        (told ∙ ap (contrl_for_partner rows k) here ∙ ap (option_and_then contrl_in) (reply_same p k above) ∙ sym (ap (contrl_for_partner whole k) here))
-    number_told (query.Ticket partner k) found is far told = λ low by_numbers copies.
+        let same : contrl_for_partner rows (string_bytes partner) k (partner_called now (string_bytes partner)) ≡ contrl_for_partner whole (string_bytes partner) k (partner_called now (string_bytes partner)) =
+        ap (contrl_for_partner rows (string_bytes partner) k) here ∙ ap (contrl_told (string_bytes partner) k) (reply_same p k above) ∙ sym (ap (contrl_for_partner whole (string_bytes partner) k) here) in
+        (what, by_whole (about.Contrl partner k) what (told ∙ same), refl)
+    number_shown (about.Ticket partner k) view what is far told = λ low by_numbers copies.
         let here = called_by (string_bytes partner) is.0 in
         let above : closed p < k = omega (arith, far, is.1) in
-        by_whole (query.Ticket partner k) found
-        (beyond_told content es archived own whole (query.Ticket partner k) found are by_numbers (subst (λ o. IsBeyond closed o k) (sym here) above)
-        (told ∙ ap (ticket_of mine.visits rows (string_bytes partner) k) here ∙ ap (ticket_if_taken mine.visits (string_bytes partner) p k) (reply_own p k above) ∙ sym (ap (ticket_of mine.visits own (string_bytes partner) k) here)))
-    number_told other found is far told = absurd is
+        let same : ticket_of mine.visits rows (string_bytes partner) k (partner_called now (string_bytes partner)) ≡ ticket_of mine.visits own (string_bytes partner) k (partner_called now (string_bytes partner)) =
+        ap (ticket_of mine.visits rows (string_bytes partner) k) here ∙ ap (ticket_if_taken mine.visits (string_bytes partner) p k) (reply_own p k above) ∙ sym (ap (ticket_of mine.visits own (string_bytes partner) k) here) in (
+          what,
+          by_whole (about.Ticket partner k) what
+              (beyond_told content es archived own whole (about.Ticket partner k) what are by_numbers (subst (λ o. IsBeyond closed o k) (sym here) above)
+              (λ shown_as. told shown_as ∙ ap (option_map (shown shown_as)) same)),
+          refl,
+        )
+    number_shown other view what is far told = absurd is
+
+    pub number_told : (asked : Query) (found : Option (List ℕ)) → IsOfNumber asked.about code n → closed p < n → TellsOf now mine rows asked found → TellsTogether content es archives archived whole asked found
+    number_told asked found is far told =
+        subst (TogetherTells content es archives archived whole asked.about asked.view) (sym told.2) (number_shown asked.about asked.view told.0 is far told.1)
 
   -- no partner has the code
-  pub nobody_told : (code : List ℕ) (n : ℕ) (asked : Query) → IsOfNumber asked code n → partner_called now code ≡ None → TellsTogether content es archives archived whole asked None
-  nobody_told code n (query.Reply partner k) is called = λ low. by_whole (query.Reply partner k) None (subst (λ o. TellsReplyOf whole (string_bytes partner) k o None) (sym (ap (partner_called now) is.0 ∙ called)) refl)
-  nobody_told code n (query.Contrl partner k) is called = λ low. by_whole (query.Contrl partner k) None (sym (ap (contrl_for_partner whole k) (ap (partner_called now) is.0 ∙ called)))
-  nobody_told code n (query.Ticket partner k) is called = λ low by_numbers copies. by_whole (query.Ticket partner k) None (sym (ap (ticket_of state.visits whole (string_bytes partner) k) (ap (partner_called now) is.0 ∙ called)))
-  nobody_told code n other is called = absurd is
+  nobody_shown : (code : List ℕ) (n : ℕ) (asked : About) (view : View) → IsOfNumber asked code n → partner_called now code ≡ None → TogetherTells content es archives archived whole asked view None
+  nobody_shown code n (about.Reply partner k) view is called = λ low. (
+    None,
+    by_whole (about.Reply partner k) None (subst (λ o. TellsReplyOf whole (string_bytes partner) k o None) (sym (ap (partner_called now) is.0 ∙ called)) refl),
+    refl,
+  )
+  nobody_shown code n (about.Contrl partner k) view is called = λ low.
+      (None, by_whole (about.Contrl partner k) None (sym (ap (contrl_for_partner whole (string_bytes partner) k) (ap (partner_called now) is.0 ∙ called))), refl)
+  nobody_shown code n (about.Ticket partner k) view is called = λ low by_numbers copies. (
+    None,
+    by_whole (about.Ticket partner k) None
+        (λ shown_as. sym (ap (λ o. option_map (shown shown_as) (ticket_of state.visits whole (string_bytes partner) k o)) (ap (partner_called now) is.0 ∙ called))),
+    refl,
+  )
+  nobody_shown code n other view is called = absurd is
+
+  pub nobody_told : (code : List ℕ) (n : ℕ) (asked : Query) → IsOfNumber asked.about code n → partner_called now code ≡ None → TellsTogether content es archives archived whole asked None
+  nobody_told code n asked is called = nobody_shown code n asked.about asked.view is called
 
 -- ==== Naming: What a register names, once it has an archive more.
 

@@ -3,17 +3,17 @@ use Rattle.std.specs.{Prelude.{◌≡◌, ℕ, ◌+◌, Bool, List, ◌++◌, ma
 use Rattle.terminal_core.specs.State.{TerminalState}
 use Rattle.office_rows.specs.{Opening.tables_version, Rows.Rows}
 use Rattle.office_admission.specs.Setups.{SetupContent}
-use Rattle.office_reports.specs.{declared.query.Query.Query, Program.program_version, Metrics.{GaugeContent, gauges, gauge_text, versions_text}}
+use Rattle.office_reports.specs.{declared.query.About.About, Program.program_version, Metrics.{GaugeContent, gauges, gauge_text, versions_text}}
 use Rattle.office_reports.specs.Partners.{PartnerContent}
 use Rattle.office_parts.specs.Closing.{is_put_away}
 use Rattle.office_desk.specs.Reports.{AreLookedUp}
-use Rattle.office_reports.specs.declared.query.Query.TheVariants as query
+use Rattle.office_reports.specs.declared.query.About.TheVariants as about
 
 -- it is asked for the partners, or one of them, or whether the office can be asked
-abbrev pub IsOfPartners : Query → Type 0
-IsOfPartners query.Partners = Unit {0}
-IsOfPartners (query.Partner code) = Unit {0}
-IsOfPartners query.Health = Unit {0}
+abbrev pub IsOfPartners : About → Type 0
+IsOfPartners about.Partners = Unit {0}
+IsOfPartners (about.Partner code) = Unit {0}
+IsOfPartners about.Health = Unit {0}
 IsOfPartners other = ⊥
 
 -- the gauge of visits with that value, any other as it is

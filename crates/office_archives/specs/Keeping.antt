@@ -6,11 +6,13 @@ use Rattle.office_rows.specs.{Rows.Rows, Stored.HasRows}
 use Rattle.office_admission.specs.Setups.{SetupContent}
 use Rattle.office_loading.specs.{Closed.ClosedContent, Tables.LoadsOwn}
 use Rattle.office_history.specs.After.{reply_in}
-use Rattle.office_reports.specs.{declared.query.Query.Query, Tickets.ticket_text}
-use Rattle.office_desk.specs.Reports.{TellsOf}
+use Rattle.office_reports.specs.{declared.query.About.About, declared.query.Query.Query, declared.query.View.View, Tickets.ticket_of}
+use Rattle.office_report_data.specs.Told.{ReportContent, shown}
+use Rattle.office_desk.specs.Reports.{Shows, TellsAbout}
 use Rattle.office_tables.specs.declared.interchanges.Kept.{Kept}
 use Rattle.office_parts.specs.Archives.{Archive, archive_of, text_by, reply_by}
 use Rattle.office_archives.specs.Shelves.{archive_at}
+use Rattle.office_report_data.specs.Told as value
 
 -- the number is closed: it is one, from 1, and one of the archives reaches it
 abbrev pub IsClosedIn : List Archive → ℕ → ℕ → Type 0
@@ -21,9 +23,9 @@ pub record IsKeptIn (archives : List Archive) (partner number : ℕ) (kept : Kep
   pub text : text_by archives partner number ≡ Some kept.text.items
   pub reply : reply_by archives partner number ≡ option_map string_bytes kept.reply
 
--- The ticket of an interchange that was taken, of the partner with a code: by the terminal of a store that has these rows,
--- whatever is closed of it.
-pub record IsTicketOf (rows : Rows) (code : List ℕ) (partner number : ℕ) (ticket : List ℕ) : Type 0 where
+-- The ticket of an interchange that was taken, of the partner with a code, shown so: by the terminal of a store that has these
+-- rows, whatever is closed of it.
+pub record IsTicketOf (rows : Rows) (code : List ℕ) (partner number : ℕ) (view : View) (ticket : List ℕ) : Type 0 where
   pub db : Database
   pub has : HasRows rows db
   pub closed : ClosedContent
@@ -31,25 +33,30 @@ pub record IsTicketOf (rows : Rows) (code : List ℕ) (partner number : ℕ) (ti
   pub terminal : TerminalState
   pub loads : LoadsOwn closed db content terminal
   pub taken : is_some (reply_in rows partner number) ≡ true
-  pub tells : ticket ≡ ticket_text code (record { partner = partner; number = number }) terminal.visits
+  pub tells : ticket
+      ≡ shown view (value.ticket (ticket_of code (record { partner = partner; number = number }) terminal.visits))
 
 -- it is the one that the number's archive tells, as the store that it was
-abbrev pub IsTicketIn : List Archive → (code : List ℕ) → (partner number : ℕ) → (ticket : List ℕ) → Type 0
-IsTicketIn archives code partner number ticket =
+abbrev pub IsTicketIn : List Archive → (code : List ℕ) → (partner number : ℕ) → View → (ticket : List ℕ) → Type 0
+IsTicketIn archives code partner number view ticket =
     1 ≤ number → (archive : Archive) → archive_of archives partner number ≡ Some archive →
-    IsTicketOf archive.rows code partner number ticket
+    IsTicketOf archive.rows code partner number view ticket
 
 -- ---- an archive as the store that it was
 
--- what a store that has these rows tells at a query, whatever is closed of it
-pub record IsReportOf (rows : Rows) (asked : Query) (found : Option (List ℕ)) : Type 0 where
+-- what a store that has these rows tells of it, whatever is closed of it
+pub record IsValueOf (rows : Rows) (asked : About) (told : Option ReportContent) : Type 0 where
   pub db : Database
   pub has : HasRows rows db
   pub closed : ClosedContent
   pub content : SetupContent
   pub terminal : TerminalState
   pub loads : LoadsOwn closed db content terminal
-  pub tells : TellsOf content terminal rows asked found
+  pub tells : TellsAbout content terminal rows asked told
+
+-- what it reports at a query
+abbrev pub IsReportOf : Rows → Query → Option (List ℕ) → Type 0
+IsReportOf rows asked found = Shows (IsValueOf rows asked.about) asked.view found
 
 -- it is what the archive at that place tells, as the store that it was
 abbrev pub IsReportIn : List Archive → (place : ℕ) → Query → Option (List ℕ) → Type 0

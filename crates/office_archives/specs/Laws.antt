@@ -7,16 +7,17 @@ use Rattle.terminal_core.specs.{declared.change.Source.Source, Rows.VisitContent
 use Rattle.office_admission.specs.{Deliveries.deliveries_of, Given.IsGiven, Setups.SetupContent}
 use Rattle.office_replies.specs.Events.{Event}
 use Rattle.office_rows.specs.Rows.{Interchange, ListingContent, Rows}
-use Rattle.office_reports.specs.declared.query.Query.{Query}
+use Rattle.office_reports.specs.declared.query.About.{About}
 use Rattle.office_history.specs.{After.{AreAfter, content_after, machine_after}, Laws.HasNoMigration}
 use Rattle.office_parts.specs.{Archives.{Archive, archive_of, Hold}, Closing.{archived_with, is_closed, MayClose}, LeftOver.rows_beyond}
 use Rattle.office_parts.specs.{OwnTerminal.own_terminal, Parts.{Archived, nothing_archived, ArePartsAfter}}
 use Rattle.office_parts.specs.OwnLists.{ListName, rows_without_lists, without_lists}
-use Rattle.office_desk.specs.Reports.{partner_called, TellsOf}
+use Rattle.office_report_data.specs.Told.{ReportContent}
+use Rattle.office_desk.specs.Reports.{IsText, TellsAbout, partner_called}
 use Rattle.office_archives.specs.{Asked.{IsOfNumberBetween, KeepsNumber}, Beyond.IsOfNumberBeyond, Closed.{closed_contrl, closed_reply, closed_ticket}}
 use Rattle.office_archives.specs.{Copies.{GoByNumbers, IsCopy, AreCopies, newest_closed}, Counted.{IsOfPartners, TellsOwnMetrics}}
 use Rattle.office_archives.specs.{Stayed.{GoOldestFirst, PutsAwayOver, TellsWhatStays, container_if_there}, Visits.{visits_by, IsVisitWithin}}
-use Rattle.office_reports.specs.declared.query.Query.TheVariants as query
+use Rattle.office_reports.specs.declared.query.About.TheVariants as about
 
 -- ---- what an interchange did, and what is kept of it
 
@@ -55,10 +56,10 @@ ArchivesTellVisits =
 -- what archives tell as the reply and the CONTRL of the partner's number is what the rows after the events tell
 pub record RepliesAreTold (content : SetupContent) (es : List Event) (archives : List Archive) (whole : Rows)
     (code : String Global) (partner number : ℕ) : Type 0 where
-  pub reply : TellsOf (content_after content es) (machine_after content es).terminal whole (query.Reply code number)
+  pub reply : TellsAbout (content_after content es) (machine_after content es).terminal whole (about.Reply code number)
       (closed_reply archives (string_bytes code) partner number)
-  pub contrl : TellsOf (content_after content es) (machine_after content es).terminal whole (query.Contrl code number)
-      (closed_contrl archives partner number)
+  pub contrl : TellsAbout (content_after content es) (machine_after content es).terminal whole (about.Contrl code number)
+      (closed_contrl archives (string_bytes code) partner number)
 
 abbrev pub ArchivesTellReplies : Type 0
 ArchivesTellReplies =
@@ -75,31 +76,31 @@ ArchivesTellTickets =
     AreCopies content es (λ partner. 0) archives →
     partner_called (content_after content es) (string_bytes code) ≡ Some partner → 1 ≤ number →
     number ≤ archived.last_closed partner
-    → TellsOf (content_after content es) (machine_after content es).terminal whole (query.Ticket code number)
+    → TellsAbout (content_after content es) (machine_after content es).terminal whole (about.Ticket code number)
     (closed_ticket archives (string_bytes code) partner number)
 
 -- An archive that is a copy may be asked as the store that it was, for each number that it closed: what it reports is what
 -- the rows after all events report.
 abbrev pub ArchivesAreAskedAsStores : Type 0
 ArchivesAreAskedAsStores =
-    (content : SetupContent) (es : List Event) (closed_before : ℕ → ℕ) (archive : Archive) (whole : Rows) (asked : Query)
-    (found : Option (List ℕ)) → AreAfter content es whole → (copy : IsCopy content es closed_before archive) →
+    (content : SetupContent) (es : List Event) (closed_before : ℕ → ℕ) (archive : Archive) (whole : Rows) (asked : About)
+    (told : Option ReportContent) → AreAfter content es whole → (copy : IsCopy content es closed_before archive) →
     IsOfNumberBetween (content_after content es) closed_before archive.last_closed asked →
-    TellsOf (content_after content copy.earlier)
+    TellsAbout (content_after content copy.earlier)
     (without_lists copy.away (own_terminal copy.archived.stays (machine_after content copy.earlier).terminal))
-    archive.rows asked found
-    → TellsOf (content_after content es) (machine_after content es).terminal whole asked found
+    archive.rows asked told
+    → TellsAbout (content_after content es) (machine_after content es).terminal whole asked told
 
 -- ---- all other numbers
 
 -- the reply, the CONTRL and the ticket of a number that is not closed are reported by the store's own rows as by the whole
 abbrev pub NumbersBeyondAreToldAlike : Type 0
 NumbersBeyondAreToldAlike =
-    (content : SetupContent) (es : List Event) (archived : Archived) (own whole : Rows) (asked : Query)
-    (found : Option (List ℕ)) → ArePartsAfter content es archived own whole → GoByNumbers archived →
+    (content : SetupContent) (es : List Event) (archived : Archived) (own whole : Rows) (asked : About)
+    (told : Option ReportContent) → ArePartsAfter content es archived own whole → GoByNumbers archived →
     IsOfNumberBeyond (content_after content es) archived.last_closed asked →
-    TellsOf (content_after content es) (own_terminal archived.stays (machine_after content es).terminal) own asked found
-    → TellsOf (content_after content es) (machine_after content es).terminal whole asked found
+    TellsAbout (content_after content es) (own_terminal archived.stays (machine_after content es).terminal) own asked told
+    → TellsAbout (content_after content es) (machine_after content es).terminal whole asked told
 
 -- ---- containers
 
@@ -107,22 +108,22 @@ NumbersBeyondAreToldAlike =
 abbrev pub VisitsAreTold : Type 0
 VisitsAreTold =
     (content : SetupContent) (es : List Event) (archives : List Archive) (archived : Archived) (own whole : Rows)
-    (container : BoxNumber) (found : Option (List ℕ)) → ArePartsAfter content es archived own whole →
+    (container : BoxNumber) (told : Option ReportContent) → ArePartsAfter content es archived own whole →
     Hold archives archived →
-    TellsOf (content_after content es) (own_terminal archived.stays (machine_after content es).terminal) own
-    (query.Visits container) found
-    → TellsWhatStays (content_after content es) archives archived.stays (machine_after content es).terminal container found
+    TellsAbout (content_after content es) (own_terminal archived.stays (machine_after content es).terminal) own
+    (about.Visits container) told
+    → TellsWhatStays (content_after content es) archives archived.stays (machine_after content es).terminal container told
 
 -- If of each container's visits the older go first, the store reports where a container is as the whole does; but it
 -- reports nothing of one that is not in the yard and whose last visit was put away.
 abbrev pub ContainersAreTold : Type 0
 ContainersAreTold =
     (content : SetupContent) (es : List Event) (archived : Archived) (own whole : Rows) (container : BoxNumber)
-    (found : Option (List ℕ)) → ArePartsAfter content es archived own whole →
+    (told : Option ReportContent) → ArePartsAfter content es archived own whole →
     GoOldestFirst archived.stays whole.visits →
-    TellsOf (content_after content es) (own_terminal archived.stays (machine_after content es).terminal) own
-    (query.Container container) found
-    → found
+    TellsAbout (content_after content es) (own_terminal archived.stays (machine_after content es).terminal) own
+    (about.Container container) told
+    → told
     ≡ container_if_there (content_after content es) archived.stays (machine_after content es).terminal container
 
 -- ---- what is counted
@@ -130,19 +131,19 @@ ContainersAreTold =
 -- the partners are reported by the store's own rows as by the whole
 abbrev pub PartnersAreToldAlike : Type 0
 PartnersAreToldAlike =
-    (content : SetupContent) (es : List Event) (archived : Archived) (own whole : Rows) (asked : Query)
-    (found : Option (List ℕ)) → ArePartsAfter content es archived own whole → IsOfPartners asked →
-    TellsOf (content_after content es) (own_terminal archived.stays (machine_after content es).terminal) own asked found
-    → TellsOf (content_after content es) (machine_after content es).terminal whole asked found
+    (content : SetupContent) (es : List Event) (archived : Archived) (own whole : Rows) (asked : About)
+    (told : Option ReportContent) → ArePartsAfter content es archived own whole → IsOfPartners asked →
+    TellsAbout (content_after content es) (own_terminal archived.stays (machine_after content es).terminal) own asked told
+    → TellsAbout (content_after content es) (machine_after content es).terminal whole asked told
 
 -- so are the metrics, but for the number of visits
 abbrev pub MetricsAreTold : Type 0
 MetricsAreTold =
-    (content : SetupContent) (es : List Event) (archived : Archived) (own whole : Rows) (found : Option (List ℕ)) →
+    (content : SetupContent) (es : List Event) (archived : Archived) (own whole : Rows) (told : Option ReportContent) →
     ArePartsAfter content es archived own whole →
-    TellsOf (content_after content es) (own_terminal archived.stays (machine_after content es).terminal) own
-    query.Metrics found
-    → TellsOwnMetrics (content_after content es) archived.stays (machine_after content es).terminal whole found
+    TellsAbout (content_after content es) (own_terminal archived.stays (machine_after content es).terminal) own
+    about.Metrics told
+    → IsText (TellsOwnMetrics (content_after content es) archived.stays (machine_after content es).terminal whole) told
 
 -- ---- copies
 

@@ -1,29 +1,27 @@
 -- What a store's own rows tell of containers, of which visits were put away.
-use Rattle.std.specs.Prelude.{◌≡◌, ℕ, ◌<◌, Bool, true, false, ◌&&◌, ◌||◌, List, [], ◌∷◌, ◌++◌, Contains, filter, is_some, codes, Option, None, Some, if◌then◌else◌}
-use Rattle.std.specs.List.{flat_map}
+use Rattle.std.specs.Prelude.{◌≡◌, ℕ, ◌<◌, Bool, true, false, ◌&&◌, ◌||◌, List, [], ◌∷◌, Contains, filter, is_some, Option, None, Some, option_map, if◌then◌else◌}
 use Rattle.box6346.specs.declared.box_number.BoxNumber.{BoxNumber}
 use Rattle.terminal_core.specs.{Rows.VisitContent, State.{TerminalState, is_visit_of, last_number, last_visit, open_visit}}
 use Rattle.office_admission.specs.Setups.{SetupContent}
-use Rattle.office_reports.specs.{Names.line, Visits.{visit_line, visit_report}, Yard.slot_in, Containers.container_report}
+use Rattle.office_reports.specs.{Visits.visits_by, Yard.slot_in, Containers.{ContainerContent, container_of}, OpenLines.open_lines}
+use Rattle.office_report_data.specs.Told.{ReportContent}
 use Rattle.office_parts.specs.{Archives.{Archive, IsInArchive}, OwnTerminal.own_visits}
+use Rattle.office_report_data.specs.Told as value
 
 -- ---- all visits of a container
 
 abbrev pub visits_of : BoxNumber → List VisitContent → List VisitContent
 visits_of container visits = filter (is_visit_of container) visits
 
--- the report with a line for each of these, if there are any
-abbrev pub report_with : SetupContent → BoxNumber → List VisitContent → Option (List ℕ)
-report_with now container [] = None
-report_with now container (visit ∷ visits) =
-    Some (line (codes "VISITS" ∷ container ∷ []) ++ flat_map (visit_line now) (visit ∷ visits))
+-- the report on these, if there are any
+abbrev pub report_with : SetupContent → BoxNumber → List VisitContent → Option ReportContent
+report_with now container visits = option_map value.visits (visits_by now container visits)
 
--- Of the container's visits, of each of which the whole has a line, the store tells those that stay, by the same lines in
--- the same order; each other is in one of the archives.
+-- Of the container's visits, all of which the whole tells, the store tells those that stay, as they are and in the same
+-- order; each other is in one of the archives.
 pub record TellsWhatStays (now : SetupContent) (archives : List Archive) (stays : ℕ → Bool) (state : TerminalState)
-    (container : BoxNumber) (found : Option (List ℕ)) : Type 0 where
-  pub whole : visit_report now state container ≡ report_with now container (visits_of container state.visits)
-  pub told : found ≡ report_with now container (own_visits stays (visits_of container state.visits))
+    (container : BoxNumber) (told : Option ReportContent) : Type 0 where
+  pub is : told ≡ report_with now container (own_visits stays (visits_of container state.visits))
   pub others : (visit : VisitContent) → Contains (visits_of container state.visits) visit →
       stays visit.number ≡ false → IsInArchive archives visit
 
@@ -51,9 +49,15 @@ stays_if_any stays (Some visit) = stays visit.number
 abbrev pub stands_in : TerminalState → BoxNumber → Bool
 stands_in state container = is_some (open_visit state container) && is_some (slot_in state container)
 
+-- with the open lines that name it, and those of its visits that stay
+abbrev pub container_with : SetupContent → (stays : ℕ → Bool) → TerminalState → BoxNumber → ContainerContent → ReportContent
+container_with now stays state container report =
+    value.container report (open_lines state.lines container)
+    (visits_by now container (own_visits stays (visits_of container state.visits)))
+
 -- the report of the whole, if the container stands in the yard or its last visit stays
-abbrev pub container_if_there : SetupContent → (stays : ℕ → Bool) → TerminalState → BoxNumber → Option (List ℕ)
+abbrev pub container_if_there : SetupContent → (stays : ℕ → Bool) → TerminalState → BoxNumber → Option ReportContent
 container_if_there now stays state container =
     if stands_in state container || stays_if_any stays (last_visit state container)
-    then container_report now state container
+    then option_map (container_with now stays state container) (container_of now state container)
     else None

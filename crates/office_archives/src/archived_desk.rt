@@ -1,31 +1,31 @@
-ghost use Rattle.std.specs.{Option.option_map, Prelude.{◌≡◌, ◌≤◌, ◌&&◌, ◌↔◌, ℕ, nat_le, [], IfErr, IfOk, List, OnOk, Some, false, string_bytes, true}};
+ghost use Rattle.std.specs.{Option.option_map, Prelude.{◌≡◌, ◌&&◌, ℕ, nat_le, [], IfErr, IfOk, List, OnOk, Some, false, string_bytes}};
 ghost use Rattle.std.specs.Result.{result_map_both};
 ghost use Rattle.edi_messages.specs.Owned.{call_content};
 ghost use Rattle.edi_syntax.specs.{Interchange.{interchange_of, segments_in}, Envelope.header_of};
-ghost use Rattle.office_admission.specs.{Admission.number_in, Outcomes.IsAdmitted, Setups.{SetupContent, setup_content}};
-ghost use Rattle.office_archives.specs.{Causes.{IsDeserved, IsDeservedHere}, Keeping.{IsClosedBefore, IsNotClosedBefore}};
-ghost use Rattle.office_archives.specs.Telling.{IsOfContainer, IsOfList, IsOfNumber, IsPlace, TellsAsStore};
-ghost use Rattle.office_archives.specs.Together.{EnrolsTogether, LeadsTogether, LooksTogether, OnlyLooksTogether, StandTogether, TellsBeside, TellsOfOne};
+ghost use Rattle.office_admission.specs.{Admission.number_in, Outcomes.IsAdmitted};
+ghost use Rattle.office_archives.specs.Causes.{IsDeserved, IsDeservedHere};
+ghost use Rattle.office_archives.specs.Telling.{IsOfContainer, IsOfExpected, IsOfList, IsOfNumber, IsOfWhatIsHere};
+ghost use Rattle.office_archives.specs.Together.{EnrolsTogether, LeadsTogether, LooksTogether, OnlyLooksTogether, TellsBeside};
 ghost use Rattle.office_loading.specs.Closed.{last_closed};
 ghost use Rattle.office_desk.specs.{Calls.OnlyLooks, Desks.IsSound, Reports.{DeskTells, IsOpenFor, partner_called}};
-ghost use Rattle.office_history.specs.After.{content_after};
 ghost use Rattle.office_parts.specs.Archives.{Archive};
-ghost use Rattle.office_reports.specs.{Looking.{of_archive, report, texts_after}, declared.query.Query.Query, declared.query.Query.TheVariants.Calls};
-ghost use Rattle.office_replies.specs.Events.{Event};
+ghost use Rattle.office_reports.specs.{Looking.{of_archive, report, texts_after}, declared.query.About.TheVariants.Calls};
 ghost use Rattle.office_tables.specs.declared.table_fault.TableFault.TheVariants.{Version};
 ghost use Rattle.sqlite.specs.{Held.state, State.HasCleanDisk};
 
 use crate::archives::{
     Archives, answer_closed, archives_with_lists, partner_called, tell_closed, with_archives,
+    with_note,
 };
 use crate::bringing::bring_back_named;
 use crate::lists_away::{lines_if_away, report_by_lines};
+use crate::of_archive::tell_of_archive;
 use edi_messages::Call;
 use edi_syntax::interchange_text;
 use office_admission::Admitted;
 use office_desk::Desk;
 use office_replies::{AccountAnswer, AddAccount, Deliver, Response};
-use office_reports::{NotNow, Query, Report};
+use office_reports::{About, NotNow, Query, Report};
 use office_tables::TableFault;
 use sqlite::Alter;
 use std::alloc::Global;
@@ -142,7 +142,7 @@ impl<S: Alter + Drop, A: Archives + Drop> ArchivedDesk<S, A> {
             TellsBeside S.Store A.are self.old.desk self.old.archives query.now (option_map string_bytes found)) }
         ensures looks { OnlyLooksTogether S.Store A.are self.old.desk self.old.archives self.new.desk
             self.new.archives }
-        ensures fault { IsSound S.Store self.new.desk → IfErr result (IsDeservedHere S.Store self.old.desk query.now) }
+        ensures fault { IsSound S.Store self.new.desk → IfErr result (IsDeservedHere S.Store self.old.desk query.now.about) }
         ensures last_fault { self.new.desk.last_fault ≡ self.old.desk.last_fault }
 
         // If there are no archives, the desk reports it.
@@ -150,7 +150,7 @@ impl<S: Alter + Drop, A: Archives + Drop> ArchivedDesk<S, A> {
             IfOk result (λ found. DeskTells S.Store self.old.desk query.now (option_map string_bytes found)) }
         ensures alone_looks { A.are [] self.old.archives → OnlyLooks S.Store self.old.desk self.new.desk }
         ensures alone_fault { A.are [] self.old.archives → IsSound S.Store self.new.desk →
-            IfErr result (IsDeserved S.Store self.old.desk query.now) }
+            IfErr result (IsDeserved S.Store self.old.desk query.now.about) }
     {
         if self.archives.count() == 0 {
             return self.desk.find_report(alloc, query);
@@ -165,51 +165,84 @@ impl<S: Alter + Drop, A: Archives + Drop> ArchivedDesk<S, A> {
         ensures looks { OnlyLooksTogether S.Store A.are self.old.desk self.old.archives self.new.desk
             self.new.archives }
         ensures is_open { HasCleanDisk (state S.Store self.new.desk.conn) →
-            OnOk result (IsOpenFor query.now (state S.Store self.new.desk.conn)) }
-        ensures fault { IsSound S.Store self.new.desk → IfErr result (IsDeservedHere S.Store self.old.desk query.now) }
+            OnOk result (IsOpenFor query.now.about (state S.Store self.new.desk.conn)) }
+        ensures fault { IsSound S.Store self.new.desk → IfErr result (IsDeservedHere S.Store self.old.desk query.now.about) }
         ensures last_fault { self.new.desk.last_fault ≡ self.old.desk.last_fault }
     {
-        match query {
-            Query::Visits(_) | Query::Container(_) => self.find_container(alloc, query),
-            Query::Calls => self.find_calls(alloc, query),
-            Query::List { call, side } => self.find_list(alloc, query, call, *side),
-            Query::Work { call, side } => self.find_list(alloc, query, call, *side),
-            Query::Reply { partner, number } => self.find_number(alloc, query, partner, *number),
-            Query::Contrl { partner, number } => self.find_number(alloc, query, partner, *number),
-            Query::Ticket { partner, number } => self.find_number(alloc, query, partner, *number),
+        match &query.about {
+            About::Visits(_) | About::Container(_) => self.find_container(alloc, query),
+            About::Expected(_) => self.find_expected(alloc, query),
+            About::Find(_) | About::Start => self.find_here(alloc, query),
+            About::Calls => self.find_calls(alloc, query),
+            About::List { call, side } => self.find_list(alloc, query, call, *side),
+            About::Work { call, side } => self.find_list(alloc, query, call, *side),
+            About::Reply { partner, number } => self.find_number(alloc, query, partner, *number),
+            About::Contrl { partner, number } => self.find_number(alloc, query, partner, *number),
+            About::Ticket { partner, number } => self.find_number(alloc, query, partner, *number),
             _ => self.desk.find_report(alloc, query),
         }
     }
 
     /// What the store reports of a container, and how many archives were not searched.
     fn find_container(&mut self, alloc: Global, query: &Query) -> Result<Option<String>, TableFault>
-        requires { IsOfContainer query.now }
+        requires { IsOfContainer query.now.about }
         ensures told { IsSound S.Store self.new.desk → A.is_sound self.new.archives → IfOk result (λ found.
             TellsBeside S.Store A.are self.old.desk self.old.archives query.now (option_map string_bytes found)) }
         ensures looks { OnlyLooksTogether S.Store A.are self.old.desk self.old.archives self.new.desk
             self.new.archives }
         ensures is_open { HasCleanDisk (state S.Store self.new.desk.conn) →
-            OnOk result (IsOpenFor query.now (state S.Store self.new.desk.conn)) }
-        ensures fault { IsSound S.Store self.new.desk → IfErr result (IsDeservedHere S.Store self.old.desk query.now) }
+            OnOk result (IsOpenFor query.now.about (state S.Store self.new.desk.conn)) }
+        ensures fault { IsSound S.Store self.new.desk → IfErr result (IsDeservedHere S.Store self.old.desk query.now.about) }
         ensures last_fault { self.new.desk.last_fault ≡ self.old.desk.last_fault }
     {
         let told = self.desk.find_report(alloc, query)?;
-        Ok(with_archives(alloc, told, self.archives.count())?)
+        Ok(with_archives(alloc, query.view, told, self.archives.count())?)
     }
 
-    /// What the store reports of its lists, and how many archives there are, if lists were put away.
-    fn find_calls(&mut self, alloc: Global, query: &Query) -> Result<Option<String>, TableFault>
-        requires { query.now ≡ Calls }
+    /// The open lines that name a container, and how many archives were not searched.
+    fn find_expected(&mut self, alloc: Global, query: &Query) -> Result<Option<String>, TableFault>
+        requires { IsOfExpected query.now.about }
         ensures told { IsSound S.Store self.new.desk → A.is_sound self.new.archives → IfOk result (λ found.
             TellsBeside S.Store A.are self.old.desk self.old.archives query.now (option_map string_bytes found)) }
         ensures looks { OnlyLooksTogether S.Store A.are self.old.desk self.old.archives self.new.desk
             self.new.archives }
-        ensures fault { IsSound S.Store self.new.desk → IfErr result (IsDeservedHere S.Store self.old.desk query.now) }
+        ensures is_open { HasCleanDisk (state S.Store self.new.desk.conn) →
+            OnOk result (IsOpenFor query.now.about (state S.Store self.new.desk.conn)) }
+        ensures fault { IsSound S.Store self.new.desk → IfErr result (IsDeservedHere S.Store self.old.desk query.now.about) }
+        ensures last_fault { self.new.desk.last_fault ≡ self.old.desk.last_fault }
+    {
+        let told = self.desk.find_report(alloc, query)?;
+        Ok(with_note(alloc, told, self.archives.count())?)
+    }
+
+    /// What the store has itself: what a text finds, and what the start page tells.
+    fn find_here(&mut self, alloc: Global, query: &Query) -> Result<Option<String>, TableFault>
+        requires { IsOfWhatIsHere query.now.about }
+        ensures told { IsSound S.Store self.new.desk → A.is_sound self.new.archives → IfOk result (λ found.
+            TellsBeside S.Store A.are self.old.desk self.old.archives query.now (option_map string_bytes found)) }
+        ensures looks { OnlyLooksTogether S.Store A.are self.old.desk self.old.archives self.new.desk
+            self.new.archives }
+        ensures is_open { HasCleanDisk (state S.Store self.new.desk.conn) →
+            OnOk result (IsOpenFor query.now.about (state S.Store self.new.desk.conn)) }
+        ensures fault { IsSound S.Store self.new.desk → IfErr result (IsDeservedHere S.Store self.old.desk query.now.about) }
+        ensures last_fault { self.new.desk.last_fault ≡ self.old.desk.last_fault }
+    {
+        self.desk.find_report(alloc, query)
+    }
+
+    /// What the store reports of its lists, and how many archives there are, if lists were put away.
+    fn find_calls(&mut self, alloc: Global, query: &Query) -> Result<Option<String>, TableFault>
+        requires { query.now.about ≡ Calls }
+        ensures told { IsSound S.Store self.new.desk → A.is_sound self.new.archives → IfOk result (λ found.
+            TellsBeside S.Store A.are self.old.desk self.old.archives query.now (option_map string_bytes found)) }
+        ensures looks { OnlyLooksTogether S.Store A.are self.old.desk self.old.archives self.new.desk
+            self.new.archives }
+        ensures fault { IsSound S.Store self.new.desk → IfErr result (IsDeservedHere S.Store self.old.desk query.now.about) }
         ensures last_fault { self.new.desk.last_fault ≡ self.old.desk.last_fault }
     {
         let told = self.desk.find_report(alloc, query)?;
         let count = archives_with_lists(&self.archives, self.archives.count());
-        Ok(with_archives(alloc, told, count)?)
+        Ok(with_archives(alloc, query.view, told, count)?)
     }
 
     /// What the list of a call says, or what is left of it: if it is away, by its lines as they were put away.
@@ -220,12 +253,12 @@ impl<S: Alter + Drop, A: Archives + Drop> ArchivedDesk<S, A> {
         call: &Call,
         side: Side,
     ) -> Result<Option<String>, TableFault>
-        requires { IsOfList query.now (call_content call.now) side }
+        requires { IsOfList query.now.about (call_content call.now) side }
         ensures told { IsSound S.Store self.new.desk → A.is_sound self.new.archives → IfOk result (λ found.
             TellsBeside S.Store A.are self.old.desk self.old.archives query.now (option_map string_bytes found)) }
         ensures looks { OnlyLooksTogether S.Store A.are self.old.desk self.old.archives self.new.desk
             self.new.archives }
-        ensures fault { IsSound S.Store self.new.desk → IfErr result (IsDeservedHere S.Store self.old.desk query.now) }
+        ensures fault { IsSound S.Store self.new.desk → IfErr result (IsDeservedHere S.Store self.old.desk query.now.about) }
         ensures last_fault { self.new.desk.last_fault ≡ self.old.desk.last_fault }
     {
         match lines_if_away(alloc, &mut self.desk, &self.archives, call, side)? {
@@ -242,14 +275,14 @@ impl<S: Alter + Drop, A: Archives + Drop> ArchivedDesk<S, A> {
         code: &str,
         number: u32,
     ) -> Result<Option<String>, TableFault>
-        requires { IsOfNumber query.now code.now number }
+        requires { IsOfNumber query.now.about code.now number }
         ensures told { IsSound S.Store self.new.desk → A.is_sound self.new.archives → IfOk result (λ found.
             TellsBeside S.Store A.are self.old.desk self.old.archives query.now (option_map string_bytes found)) }
         ensures looks { OnlyLooksTogether S.Store A.are self.old.desk self.old.archives self.new.desk
             self.new.archives }
         ensures is_open { HasCleanDisk (state S.Store self.new.desk.conn) →
-            OnOk result (IsOpenFor query.now (state S.Store self.new.desk.conn)) }
-        ensures fault { IsSound S.Store self.new.desk → IfErr result (IsDeservedHere S.Store self.old.desk query.now) }
+            OnOk result (IsOpenFor query.now.about (state S.Store self.new.desk.conn)) }
+        ensures fault { IsSound S.Store self.new.desk → IfErr result (IsDeservedHere S.Store self.old.desk query.now.about) }
         ensures last_fault { self.new.desk.last_fault ≡ self.old.desk.last_fault }
     {
         let Some(partner) = partner_called(&self.desk, code) else {
@@ -368,131 +401,5 @@ impl<S: Alter + Drop, A: Archives + Drop> Report for ArchivedDesk<S, A> {
         query: &Query,
     ) -> Result<Option<String>, NotNow> {
         self.answer_archive(alloc, place, query)
-    }
-}
-
-/// What the archive at a place reports for a query, as the store that it was: of a container, and of its lists if some were
-/// put away by then, also how many archives there were then, of a number that was closed before what that number's archive
-/// keeps. None if there is no such archive, or it reports nothing. No archive changes.
-fn tell_of_archive<S: Alter, A: Archives>(
-    alloc: Global,
-    desk: &Desk<S>,
-    archives: &mut A,
-    place: u16,
-    query: &Query,
-) -> Result<Option<String>, TableFault>
-    ensures told { A.is_sound archives.new → IfOk result (λ found.
-        TellsOfOne S.Store A.are desk.now archives.old place query.now (option_map string_bytes found)) }
-    ensures same { (list : List Archive) → A.are list archives.old → A.are list archives.new }
-{
-    if !has_place(archives, place) {
-        return Ok(None);
-    }
-    match query {
-        Query::Visits(_) | Query::Container(_) => tell_container(alloc, archives, place, query),
-        Query::Calls => tell_calls(alloc, archives, place, query),
-        Query::Reply { partner, number } => {
-            tell_number(alloc, desk, archives, place, query, partner, *number)
-        }
-        Query::Contrl { partner, number } => {
-            tell_number(alloc, desk, archives, place, query, partner, *number)
-        }
-        Query::Ticket { partner, number } => {
-            tell_number(alloc, desk, archives, place, query, partner, *number)
-        }
-        _ => archives.report(alloc, place, query),
-    }
-}
-
-/// Whether there is an archive at a place, the first at 1.
-fn has_place<A: Archives>(archives: &A, place: u16) -> bool
-    ensures { (list : List Archive) → A.are list archives.now → (result ≡ true) ↔ IsPlace list place }
-{
-    1 <= place && usize::from(place) <= archives.count()
-}
-
-/// What the archive at a place reports of a container, and how many archives are before it: they were not searched.
-fn tell_container<A: Archives>(
-    alloc: Global,
-    archives: &mut A,
-    place: u16,
-    query: &Query,
-) -> Result<Option<String>, TableFault>
-    requires { IsOfContainer query.now }
-    ensures told { A.is_sound archives.new → IfOk result (λ found. (content : SetupContent) (list : List Archive) →
-        A.are list archives.old → TellsAsStore content list place query.now (option_map string_bytes found)) }
-    ensures same { (list : List Archive) → A.are list archives.old → A.are list archives.new }
-{
-    let told = archives.report(alloc, place, query)?;
-    let before = usize::from(place).saturating_sub(1);
-    Ok(with_archives(alloc, told, before)?)
-}
-
-/// What the archive at a place reports of its lists, and how many archives are before it, if lists were put away with them:
-/// they were not looked at.
-fn tell_calls<A: Archives>(
-    alloc: Global,
-    archives: &mut A,
-    place: u16,
-    query: &Query,
-) -> Result<Option<String>, TableFault>
-    requires { query.now ≡ Calls }
-    ensures told { A.is_sound archives.new → IfOk result (λ found. (content : SetupContent) (list : List Archive) →
-        A.are list archives.old → IsPlace list place → TellsAsStore content list place Calls (option_map string_bytes found)) }
-    ensures same { (list : List Archive) → A.are list archives.old → A.are list archives.new }
-{
-    let told = archives.report(alloc, place, query)?;
-    let count = archives_with_lists(archives, usize::from(place).saturating_sub(1));
-    Ok(with_archives(alloc, told, count)?)
-}
-
-/// What is reported of a number: by the archive before that place which closed it, or by the archive at that place.
-fn tell_number<S: Alter, A: Archives>(
-    alloc: Global,
-    desk: &Desk<S>,
-    archives: &mut A,
-    place: u16,
-    query: &Query,
-    code: &str,
-    number: u32,
-) -> Result<Option<String>, TableFault>
-    requires { IsOfNumber query.now code.now number }
-    ensures told { A.is_sound archives.new → IfOk result (λ found. (content : SetupContent) (es : List Event)
-        (stand : StandTogether S.Store A.are content es desk.now archives.old) →
-        TellsAsStore (content_after content es) stand.list place query.now (option_map string_bytes found)) }
-    ensures same { (list : List Archive) → A.are list archives.old → A.are list archives.new }
-{
-    let Some(partner) = partner_called(desk, code) else {
-        return archives.report(alloc, place, query);
-    };
-    if closed_before(desk, archives, place, partner, number) {
-        tell_closed(alloc, archives, query, code, partner, number)
-    } else {
-        archives.report(alloc, place, query)
-    }
-}
-
-/// Whether an archive before that place keeps the number of a partner with a code. Numbers are from 1.
-fn closed_before<S: Alter, A: Archives>(
-    desk: &Desk<S>,
-    archives: &A,
-    place: u16,
-    partner: u16,
-    number: u32,
-) -> bool
-    ensures before { result ≡ true → (code : List ℕ) → partner_called (setup_content desk.now.setup) code ≡ Some partner →
-        (content : SetupContent) (es : List Event) (stand : StandTogether S.Store A.are content es desk.now archives.now) →
-        IsClosedBefore stand.list place partner number }
-    ensures not_before { result ≡ false → 1 ≤ number →
-        (code : List ℕ) → partner_called (setup_content desk.now.setup) code ≡ Some partner →
-        (content : SetupContent) (es : List Event) (stand : StandTogether S.Store A.are content es desk.now archives.now) →
-        IsNotClosedBefore stand.list place partner number }
-{
-    if number == 0 || !desk.is_closed(partner, number) {
-        return false;
-    }
-    match archives.place_of(partner, number) {
-        Some(keeper) => keeper < place,
-        None => false,
     }
 }

@@ -1,8 +1,9 @@
 ghost use Rattle.std.specs.Option.{option_and_then, option_map, unwrap_or};
-ghost use Rattle.std.specs.Prelude.{◌≡◌, ◌≤◌, ◌++◌, [], Bool, IfOk, List, length, map, string_bytes, take, Some, OnOk};
+ghost use Rattle.std.specs.Prelude.{◌≡◌, ◌≤◌, ◌++◌, [], Bool, IfOk, List, length, map, string_bytes, take, Some, OnOk, Option, ℕ};
 ghost use Rattle.edi_messages.specs.Owned.{call_content};
 ghost use Rattle.office_archives.specs.{Answering.AnswersClosed, Keeping.{IsClosedIn, IsKeptIn, IsReportIn, IsTicketIn}, Shelves.archive_at};
-ghost use Rattle.office_archives.specs.Telling.{SaysIfAway, TellsClosed, archives_line, archives_with_lists, with_archives};
+ghost use Rattle.office_archives.specs.Telling.{AreAsked, AreEnded, SaysIfAway, TellsClosed, archives_line, archives_with_lists, shown_beside, with_archives, with_note};
+ghost use Rattle.office_report_data.specs.Told.{ReportContent, shown};
 ghost use Rattle.office_desk.specs.{Answers.answer_by_model, Noting.IsNow, Reports.partner_called};
 ghost use Rattle.office_parts.specs.{Away.lines_away, OwnLists.list_name, Archives.{Archive, archive_of, reply_by}};
 ghost use Rattle.office_replies.specs.Contents.{content_of};
@@ -12,9 +13,11 @@ ghost use Rattle.partner_core.specs.Answers.{Clash, Repeat};
 
 use edi_messages::Call;
 use office_desk::Desk;
+use office_pages::with_archives as with_archives_note;
 use office_replies::{Response, clash_body, taken_body};
+use office_report_data::{show_contrl, show_taken, with_archives as with_member};
 use office_reports::texts::push_line;
-use office_reports::{Query, contrl_in};
+use office_reports::{About, Query, View};
 use office_tables::{Kept, TableFault};
 use sqlite::Alter;
 use std::alloc::{AllocError, Global};
@@ -38,8 +41,8 @@ pub trait Archives {
             IsClosedIn archives partner number → IsKeptIn archives partner number kept) }
         ensures same { (archives : List Archive) → are archives self.old → are archives self.new };
 
-    /// The ticket of a partner's number that is closed, for the partner with that code: what the interchange brought in and
-    /// took out, as the number's archive reports it, opened as the store that it was. It changes no archive.
+    /// The ticket of a partner's number that is closed, for the partner with that code, shown so: what the interchange brought
+    /// in and took out, as the number's archive reports it, opened as the store that it was. It changes no archive.
     ///
     /// Damaged if the archive keeps no reply under the number, or has the rows of no office; Version if it is of another
     /// version; Store and Memory say nothing of what it keeps.
@@ -49,9 +52,10 @@ pub trait Archives {
         code: &str,
         partner: u16,
         number: u32,
+        view: View,
     ) -> Result<String, TableFault>
         ensures ticket { is_sound self.new → IfOk result (λ ticket. (archives : List Archive) → are archives self.old →
-            IsTicketIn archives code.now partner number (string_bytes ticket)) }
+            IsTicketIn archives code.now partner number view (string_bytes ticket)) }
         ensures same { (archives : List Archive) → are archives self.old → are archives self.new };
 
     /// What the archive at that place reports for a query, the first at 1, opened as the store that it was: of numbers
@@ -165,15 +169,17 @@ pub(crate) fn tell_closed<A: Archives>(
         TellsClosed list query.now code.now partner number (option_map string_bytes found)) }
     ensures same { (list : List Archive) → A.are list archives.old → A.are list archives.new }
 {
-    match query {
-        Query::Ticket { .. } => Ok(Some(archives.ticket(alloc, code, partner, number)?)),
-        Query::Contrl { .. } => {
+    match &query.about {
+        About::Ticket { .. } => {
+            Ok(Some(archives.ticket(alloc, code, partner, number, query.view)?))
+        }
+        About::Contrl { .. } => {
             let reply = closed_reply(archives, partner, number)?;
-            Ok(contrl_in(alloc, reply.as_str())?)
+            Ok(show_contrl(alloc, code, number, reply.as_str(), query.view)?)
         }
         _ => {
             let reply = closed_reply(archives, partner, number)?;
-            Ok(Some(taken_body(alloc, "repeat", number, code, reply.as_str())?))
+            Ok(Some(show_taken(alloc, code, number, reply.as_str(), query.view)?))
         }
     }
 }
@@ -195,9 +201,43 @@ fn closed_reply<A: Archives>(
     }
 }
 
-/// What the store reports of a container, and in a last line `ARCHIVES k` how many archives it has, if it has any: they
-/// were not looked at.
+/// What the store reports of a container, its visits or its lists, and how many archives it has, if it has any, which were not
+/// looked at: as text in a last line `ARCHIVES k`, as JSON in a member `archives`, as a page in a note; CSV doesn't tell it.
 pub(crate) fn with_archives(
+    alloc: Global,
+    view: View,
+    told: Option<String>,
+    count: usize,
+) -> Result<Option<String>, AllocError>
+    ensures { IfOk result (λ found. (what : Option ReportContent) → AreAsked what →
+        option_map string_bytes told ≡ option_map (shown view) what →
+        option_map string_bytes found ≡ shown_beside count view what) }
+{
+    match view {
+        View::Text => with_line(alloc, told, count),
+        View::Json => with_member(alloc, told, count),
+        View::Csv => Ok(told),
+        View::Page => with_note(alloc, told, count),
+    }
+}
+
+/// The page, with that note before its end, if there are any.
+pub(crate) fn with_note(
+    alloc: Global,
+    told: Option<String>,
+    count: usize,
+) -> Result<Option<String>, AllocError>
+    ensures { IfOk result (λ found. (what : Option (List ℕ)) → AreEnded what →
+        option_map string_bytes told ≡ what → option_map string_bytes found ≡ option_map (with_note count) what) }
+{
+    match told {
+        Some(page) => Ok(Some(with_archives_note(alloc, page.as_str(), count)?)),
+        None => Ok(None),
+    }
+}
+
+/// The text, with that line last, if there are any.
+fn with_line(
     alloc: Global,
     told: Option<String>,
     count: usize,

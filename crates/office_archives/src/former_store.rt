@@ -10,12 +10,13 @@ ghost use Rattle.sqlite.specs.{Held.state, State.HasCleanDisk};
 use office_closing::{Archive, Register, Segment, copied_archive, is_sound};
 use office_desk::tell;
 use office_loading::{Closed, append, load_own};
-use office_reports::{Query, ticket};
+use office_report_data::show_ticket;
+use office_reports::{Query, View, ticket_of};
 use office_tables::{Kept, TableFault, kept};
 use sqlite::{Alter, Connection};
 use std::alloc::{AllocError, Global};
 
-/// The ticket of an interchange that was taken, by the rows of a store of which that is closed. It changes nothing.
+/// The ticket of an interchange that was taken, by the rows of a store of which that is closed, shown so. It changes nothing.
 ///
 /// Damaged if it was not taken, or the rows are those of no office; Version if no setting names this version; Store and
 /// Memory say nothing of the rows.
@@ -26,17 +27,19 @@ pub(crate) fn ticket_by<S: Alter>(
     code: &str,
     partner: u16,
     number: u32,
+    view: View,
 ) -> Result<String, TableFault>
     ensures ticket { HasCleanDisk (state S.Store conn.new) → IfOk result (λ ticket. (rows : Rows) →
         HasRows rows (state S.Store conn.old).now → AreKeptOnce rows.interchanges →
-        IsTicketOf rows code.now partner number (string_bytes ticket)) }
+        IsTicketOf rows code.now partner number view (string_bytes ticket)) }
     ensures reads { Reads (state S.Store conn.old) (state S.Store conn.new) result }
 {
     if !was_taken(kept(conn, partner, number)?) {
         return Err(TableFault::Damaged);
     }
     let (_, terminal) = load_own(alloc, conn, closed)?;
-    Ok(ticket(alloc, &terminal, code, partner, number)?)
+    let report = ticket_of(alloc, &terminal, code, partner, number)?;
+    Ok(show_ticket(alloc, &report, view)?)
 }
 
 /// What the rows of a store, of which that is closed, report for a query: of numbers those that it has. It changes

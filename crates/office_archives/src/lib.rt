@@ -14,6 +14,7 @@ pub mod laws;
 mod lists_away;
 mod looked;
 mod many_archives;
+mod of_archive;
 mod opened;
 mod passing;
 mod texts;

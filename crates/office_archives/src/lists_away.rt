@@ -1,15 +1,15 @@
 ghost use Rattle.std.specs.{Option.option_map, Prelude.{◌≡◌, ◌≤◌, IfOk, IfSome, IsTrue, OnOk, length, map, string_bytes}};
 ghost use Rattle.edi_messages.specs.Owned.{call_content};
 ghost use Rattle.office_archives.specs.{ListsAway.{AsksList, FindsIfAway, TellsByLines}, Telling.IsOfList};
-ghost use Rattle.office_desk.specs.{Calls.OnlyLooks, Desks.IsSound};
+ghost use Rattle.office_desk.specs.{Calls.OnlyLooks, Desks.IsSound, Reports.Shows};
 ghost use Rattle.office_parts.specs.OwnLists.{list_name};
 ghost use Rattle.office_rows.specs.{ByKey.{AreListedOnce, lines_by}, Rows.listing_content};
 ghost use Rattle.sqlite.specs.{Held.state, State.HasCleanDisk};
 
 use crate::archives::Archives;
 use edi_messages::Call;
-use office_desk::Desk;
-use office_reports::{Query, list_report, work_report};
+use office_desk::{Desk, tell_list, tell_work};
+use office_reports::{About, Query, View};
 use office_tables::TableFault;
 use sqlite::Alter;
 use std::alloc::{AllocError, Global};
@@ -57,13 +57,14 @@ pub(crate) fn lines_if_away<S: Alter + Drop, A: Archives>(
 
 /// The query for the list of a call.
 fn asked_of(alloc: Global, call: &Call, side: Side) -> Result<Query, AllocError>
-    ensures { IfOk result (λ asked. AsksList asked (call_content call.now) side) }
+    ensures { IfOk result (λ asked. AsksList asked.about (call_content call.now) side) }
 {
     let vessel = String::from_str(alloc, call.vessel.as_str())?;
     let voyage = String::from_str(alloc, call.voyage.as_str())?;
-    Ok(Query::List {
-        call: Call { vessel, voyage },
-        side,
+    let call = Call { vessel, voyage };
+    Ok(Query {
+        about: About::List { call, side },
+        view: View::Text,
     })
 }
 
@@ -77,14 +78,15 @@ pub(crate) fn report_by_lines(
     side: Side,
     lines: Vec<Listing>,
 ) -> Result<Option<String>, TableFault>
-    requires { IsOfList query.now (call_content call.now) side }
+    requires { IsOfList query.now.about (call_content call.now) side }
     ensures { IfOk result (λ found.
-        TellsByLines (map listing_content lines.items) query.now (option_map string_bytes found)) }
+        Shows (TellsByLines (map listing_content lines.items) query.now.about) query.now.view
+        (option_map string_bytes found)) }
 {
     let terminal = terminal_of(alloc, lines)?;
-    match query {
-        Query::Work { .. } => Ok(work_report(alloc, &terminal, call, side)?),
-        _ => Ok(list_report(alloc, &terminal, call, side)?),
+    match &query.about {
+        About::Work { .. } => Ok(tell_work(alloc, &terminal, call, side, query.view)?),
+        _ => Ok(tell_list(alloc, &terminal, call, side, query.view)?),
     }
 }
 

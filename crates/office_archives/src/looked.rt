@@ -8,7 +8,7 @@ use office_closing::{Register, has_seal_of, has_seals, read_register};
 use office_desk::{Beside, Desk, load_beside};
 use office_loading::Closed;
 use office_replies::Port;
-use office_reports::Query;
+use office_reports::{Query, View};
 use office_tables::{Kept, TableFault, kept};
 use sqlite::{Alter, Connection};
 use std::alloc::Global;
@@ -151,15 +151,16 @@ impl<S: Alter> Looked<S> {
         code: &str,
         partner: u16,
         number: u32,
+        view: View,
     ) -> Result<String, TableFault>
         ensures ticket { HasCleanDisk (state S.Store self.new.conn) → IfOk result (λ ticket. (rows : Rows) →
             HasRows rows (state S.Store self.old.conn).committed → AreKeptOnce rows.interchanges →
-            IsTicketOf rows code.now partner number (string_bytes ticket)) }
+            IsTicketOf rows code.now partner number view (string_bytes ticket)) }
         ensures reads { Reads (state S.Store self.old.conn) (state S.Store self.new.conn) result }
     {
         let is_idle = self.conn.is_autocommit();
         prove!(is_idle);
-        ticket_by(alloc, &mut self.conn, closed, code, partner, number)
+        ticket_by(alloc, &mut self.conn, closed, code, partner, number, view)
     }
 
     /// What the rows of a store, of which that is closed, report for a query: of numbers those that it has.

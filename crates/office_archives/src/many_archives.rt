@@ -12,7 +12,7 @@ use crate::looked::Looked;
 use crate::opened::Opened;
 use edi_messages::Call;
 use office_closing::{Register, read_list};
-use office_reports::Query;
+use office_reports::{Query, View};
 use office_tables::{Kept, TableFault};
 use sqlite::{Alter, Error, ErrorCode};
 use std::alloc::{AllocError, Global};
@@ -190,8 +190,8 @@ impl<S: Alter + Drop, F: Shelf<S>> ManyArchives<S, F> {
         Ok(found)
     }
 
-    /// The ticket that the archive at a place reports of a number of the partner with a code, if it keeps what is sealed together
-    /// with that: NO_ARCHIVE if not.
+    /// The ticket that the archive at a place reports of a number of the partner with a code, shown so, if it keeps what is sealed
+    /// together with that: NO_ARCHIVE if not.
     fn ticket_at(
         &mut self,
         alloc: Global,
@@ -199,11 +199,12 @@ impl<S: Alter + Drop, F: Shelf<S>> ManyArchives<S, F> {
         code: &str,
         partner: u16,
         number: u32,
+        view: View,
     ) -> Result<String, TableFault>
         ensures told { IfOk result (λ ticket. IsToldBy S.Store (OpensFor S.Store F.is_known F.holds self.old.shelf
             self.old.register self.old.opened.items place) place self.new.opened.items (λ rows.
             HasSealOf (register_content self.old.register) place partner number rows
-            × IsTicketOf rows code.now partner number (string_bytes ticket))) }
+            × IsTicketOf rows code.now partner number view (string_bytes ticket))) }
         ensures same { (list : List Archive) →
             AreShelved S.Store F.is_known F.holds list self.old.shelf self.old.register self.old.opened.items →
             AreShelved S.Store F.is_known F.holds list self.new.shelf self.new.register self.new.opened.items }
@@ -214,7 +215,7 @@ impl<S: Alter + Drop, F: Shelf<S>> ManyArchives<S, F> {
         };
         let ticket = opened
             .archive
-            .ticket(alloc, &closed, code, partner, number)?;
+            .ticket(alloc, &closed, code, partner, number, view)?;
         self.put_back(opened)?;
         Ok(ticket)
     }
@@ -283,11 +284,12 @@ impl<S: Alter + Drop, F: Shelf<S>> Archives for ManyArchives<S, F> {
         code: &str,
         partner: u16,
         number: u32,
+        view: View,
     ) -> Result<String, TableFault> {
         let Some(place) = self.register.archive_of(partner, number) else {
             return Err(TableFault::Damaged);
         };
-        self.ticket_at(alloc, place, code, partner, number)
+        self.ticket_at(alloc, place, code, partner, number, view)
     }
 
     fn report(

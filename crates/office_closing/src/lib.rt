@@ -53,5 +53,5 @@ pub use sealing::seals_of;
 pub use seals::{has_seal_of, has_seals};
 pub use settled_lists::{SettledList, copied_list, is_same_list, side_code};
 pub use sound::{MOST_ARCHIVES, is_file_name, is_sound};
-pub use visits::{VisitFault, newest_number, visits_to_go};
+pub use visits::{VisitFault, visits_to_go};
 pub use waiting::lists_waited_for;

@@ -13,13 +13,13 @@ use crate::faults::{CloseFault, Refusal};
 use crate::lists::{lists_in_both, lists_to_register};
 use crate::sealed_archives::{SealedArchive, all_sealed_with};
 use crate::taken::taken_to_register;
-use crate::visits::{newest_number, visits_to_go};
+use crate::visits::visits_to_go;
 use crate::{Archive, Register, Segment, SettledList, done_lists, is_file_name, is_sound};
 use office_admission::{Account, MOST_PARTNERS, Setup};
 use office_loading::{Closed, append};
 use office_parts::NamedList;
 use std::alloc::{AllocError, Global};
-use terminal_core::Terminal;
+use terminal_core::{Terminal, newest_number};
 
 /// What a store or an archive has.
 #[derive(Drop)]

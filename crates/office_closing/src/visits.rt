@@ -1,12 +1,12 @@
 ghost use Rattle.std.specs.Prelude.{◌≡◌, ◌≢◌, ◌↔◌, ◌<◌, ◌++◌, [], ◌∷◌, ℕ, true, Contains, MatchOption, IfOk, IfErr, OnOk, length, map, slice_index};
 ghost use Rattle.office_closing.specs.Visits.{AreAlike, AreToGo, GoesBelow, IsCauseOf, IsOtherwiseOver};
 ghost use Rattle.office_closing.specs.declared.visits.VisitFault.TheVariants.{Differs, Memory};
-ghost use Rattle.terminal_core.specs.{Restoring.{AreRising, numbers_of}, Rows.{VisitContent, visit_content}, State.{AreNumbered, last_number}};
+ghost use Rattle.terminal_core.specs.{Restoring.{AreRising, numbers_of}, Rows.{VisitContent, visit_content}, State.AreNumbered};
 
 use box6346::Slot;
 use office_loading::append;
 use std::alloc::{AllocError, Global};
-use terminal_core::{Arrival, Departure, Visit};
+use terminal_core::{Arrival, Departure, Visit, newest_number};
 use thiserror::Error;
 
 /// Why it is not said which visits go.
@@ -53,16 +53,6 @@ fn numbers_of(alloc: Global, visits: &[Visit]) -> Result<Vec<u32>, AllocError>
     ensures { IfOk result (λ v. v.items ≡ numbers_of visits.now) }
 {
     visits.iter().map(|visit| visit.number).collect(alloc)
-}
-
-/// The number of the newest visit, 0 if there is none.
-pub fn newest_number(visits: &[Visit]) -> u32
-    ensures { result ≡ last_number (map visit_content visits.now) }
-{
-    match visits.last() {
-        Some(visit) => visit.number,
-        None => 0,
-    }
 }
 
 /// Whether the archive has the visit, over, and it is below the newest.

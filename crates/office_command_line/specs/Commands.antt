@@ -35,10 +35,11 @@ serve_app =
     (word (codes "PORT"))) (word (codes "COUNT"))) (flag (codes "log"))) (valued_option (codes "ahead")))
     (valued_option (codes "host"))
 
--- report DB KIND [KEY]
+-- report DB KIND [KEY] [--json] [--csv]
 unfoldable pub report_app : App
-report_app = with_rule (with_rule (with_rule (new_app (codes "report")) (word (codes "DB"))) (word (codes "KIND")))
-    (word_if_any (codes "KEY"))
+report_app =
+    with_rule (with_rule (with_rule (with_rule (with_rule (new_app (codes "report")) (word (codes "DB")))
+    (word (codes "KIND"))) (word_if_any (codes "KEY"))) (flag (codes "json"))) (flag (codes "csv"))
 
 -- texts DB [FROM]
 unfoldable pub texts_app : App

@@ -6,8 +6,9 @@ use Rattle.clap.specs.declared.error.kind.ErrorKind.TheVariants.{DisplayHelp, Di
 use Rattle.edi_syntax.specs.Numbers.{number_of}
 use Rattle.office_command_line.specs.{Commands.office_app, declared.command_reading.CommandFault.CommandFault, declared.command_reading.Request.Request}
 use Rattle.office_command_line.specs.declared.command_reading.CommandFault.TheVariants.{Words, Values, Memory}
-use Rattle.office_reports.specs.{Keys.passed_of, declared.query.ReportKind.ReportKind}
-use Rattle.office_reports.specs.declared.query.ReportKind.TheVariants.{Yard, YardTable, Visits, List as VesselList, Ticket, Reply, Container, Work, Partners, Partner, Blocks, Calls, Contrl, Picture, Health, Metrics}
+use Rattle.office_reports.specs.{Keys.passed_of, declared.query.ReportKind.ReportKind, declared.query.View.View}
+use Rattle.office_reports.specs.declared.query.ReportKind.TheVariants.{Yard, Visits, List as VesselList, Ticket, Reply, Container, Work, Partners, Partner, Blocks, Calls, Contrl, Picture, Health, Metrics, Block, Start}
+use Rattle.office_reports.specs.declared.query.View.TheVariants.{Text as TextView, Json, Csv, Page as PageView}
 use Rattle.office_command_line.specs.declared.command_reading.Request.TheVariants as request
 
 -- a request, whatever memory holds its texts
@@ -15,7 +16,7 @@ pub data RequestContent : Type 0 where
   init : Text → Text → Text → RequestContent
   deliver : Text → Text → RequestContent
   serve : Text → ℕ → ℕ → Bool → (ahead : Option ℕ) → (host : Option Text) → RequestContent
-  report : Text → ReportKind → Option Text → RequestContent
+  report : Text → ReportKind → View → Option Text → RequestContent
   archives : Text → RequestContent
   texts : Text → (from : ℕ) → RequestContent
   account : Text → Text → Text → RequestContent
@@ -29,7 +30,7 @@ request_content (request.Init store partners blocks) = init store.now partners.n
 request_content (request.Deliver store file) = deliver store.now file.now
 request_content (request.Serve store port count log ahead host) =
     serve store.now port count log ahead (option_map (λ text. text.now) host)
-request_content (request.Report store kind key) = report store.now kind (option_map (λ text. text.now) key)
+request_content (request.Report store kind view key) = report store.now kind view (option_map (λ text. text.now) key)
 request_content (request.Archives store) = archives store.now
 request_content (request.Texts store from) = texts store.now from
 request_content (request.Account store code kind) = account store.now code.now kind.now
@@ -55,7 +56,6 @@ number_if_any greatest (Some text) = option_map (λ (n : ℕ). Some n) (number_u
 abbrev pub kind_said : Text → Option ReportKind
 kind_said word =
     if bytes_eq word (codes "yard") then Some Yard
-    else if bytes_eq word (codes "yardcsv") then Some YardTable
     else if bytes_eq word (codes "visits") then Some Visits
     else if bytes_eq word (codes "list") then Some VesselList
     else if bytes_eq word (codes "ticket") then Some Ticket
@@ -76,7 +76,6 @@ kind_said word =
 -- interchange or partner that it is about
 abbrev pub wants_key : ReportKind → Bool
 wants_key Yard = false
-wants_key YardTable = false
 wants_key Visits = true
 wants_key VesselList = true
 wants_key Ticket = true
@@ -91,6 +90,8 @@ wants_key Reply = true
 wants_key Partner = true
 wants_key Health = false
 wants_key Metrics = false
+wants_key Start = false
+wants_key Block = true
 
 -- ---- what the words of a subcommand ask for
 
@@ -125,25 +126,50 @@ serve_request rows =
     (first_of (codes "DB") rows)
 
 -- the key is there if it is wanted, and nowhere else
-abbrev pub report_with : Text → ReportKind → Option Text → Option RequestContent
-report_with store kind None = if wants_key kind then None else Some (report store kind None)
-report_with store kind (Some key) = if wants_key kind then Some (report store kind (Some key)) else None
+abbrev pub report_with : Text → ReportKind → View → Option Text → Option RequestContent
+report_with store kind view None = if wants_key kind then None else Some (report store kind view None)
+report_with store kind view (Some key) = if wants_key kind then Some (report store kind view (Some key)) else None
 
--- the report on the store's archives has no key
-abbrev pub archives_with : Text → Option Text → Option RequestContent
-archives_with store None = Some (archives store)
-archives_with store (Some key) = None
+-- the report on the store's archives is text, and has no key
+
+abbrev pub archives_alone : Text → Option Text → Option RequestContent
+archives_alone store None = Some (archives store)
+archives_alone store (Some key) = None
+
+abbrev pub archives_with : Text → View → Option Text → Option RequestContent
+archives_with store TextView key = archives_alone store key
+archives_with store Json key = None
+archives_with store Csv key = None
+archives_with store PageView key = None
+
+-- the report on the yard as CSV, by a word of its own
+abbrev pub table_with : Text → View → Option Text → Option RequestContent
+table_with store TextView key = report_with store Yard Csv key
+table_with store Csv key = report_with store Yard Csv key
+table_with store Json key = None
+table_with store PageView key = None
 
 -- a report of the kind that a word says
-abbrev pub report_said : Text → Text → Option Text → Option RequestContent
-report_said store word key =
-    if bytes_eq word (codes "archives") then archives_with store key
-    else option_and_then (λ (kind : ReportKind). report_with store kind key) (kind_said word)
+abbrev pub report_said : Text → Text → View → Option Text → Option RequestContent
+report_said store word view key =
+    if bytes_eq word (codes "archives") then archives_with store view key
+    else if bytes_eq word (codes "yardcsv") then table_with store view key
+    else option_and_then (λ (kind : ReportKind). report_with store kind view key) (kind_said word)
+
+-- as what it is printed: by whether JSON is asked for, and whether CSV is; not both
+abbrev pub view_said : (json csv : Bool) → Option View
+view_said false false = Some TextView
+view_said true false = Some Json
+view_said false true = Some Csv
+view_said true true = None
 
 abbrev pub report_request : List Row → Option RequestContent
 report_request rows =
     option_and_then (λ (store : Text).
-    option_and_then (λ (word : Text). report_said store word (first_of (codes "KEY") rows)) (first_of (codes "KIND") rows))
+    option_and_then (λ (word : Text).
+    option_and_then (λ (view : View). report_said store word view (first_of (codes "KEY") rows))
+    (view_said (is_set (codes "json") rows) (is_set (codes "csv") rows)))
+    (first_of (codes "KIND") rows))
     (first_of (codes "DB") rows)
 
 -- how many texts to pass over; 0 if nothing is said

@@ -91,7 +91,7 @@ pub(crate) fn serve_command<'a>(alloc: Global) -> Result<Command<'a>, AllocError
     Ok(serve)
 }
 
-/// `report DB KIND [KEY]`
+/// `report DB KIND [KEY] [--json] [--csv]`
 pub(crate) fn report_command<'a>(alloc: Global) -> Result<Command<'a>, AllocError>
     ensures app { IfOk result (λ command. app_of command ≡ report_app) }
     ensures local { IfOk result (λ command. (out-Command command).has_globals ≡ false) }
@@ -103,12 +103,16 @@ pub(crate) fn report_command<'a>(alloc: Global) -> Result<Command<'a>, AllocErro
         "KEY",
         "BOX, VESSEL/VOYAGE/SIDE, PARTNER/NUMBER or PARTNER",
     );
+    let json = flag(alloc, "json", "Print the report as JSON");
+    let csv = flag(alloc, "csv", "Print the report as CSV, if it is a list");
     let report = Command::new(alloc, "report")
         .about("Print a report; KEY is required from `container` on")
         .after_help("Example: office report office.db visits ABCU0000017")
         .arg(store)?
         .arg(kind)?
-        .arg(key)?;
+        .arg(key)?
+        .arg(json)?
+        .arg(csv)?;
     Ok(report)
 }
 

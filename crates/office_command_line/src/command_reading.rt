@@ -1,11 +1,12 @@
 ghost use Rattle.std.specs.{Option.option_map, Prelude.{◌≡◌, IfOk, IfErr, map}};
 ghost use Rattle.clap.specs.Words.{found_of, rows_of, subcommand_rows_of, first_of};
-ghost use Rattle.office_command_line.specs.Requests.{request_content, init_request, account_request, migrate_request, close_request, explain_asked, deliver_request, serve_request, report_request, report_said, report_with, archives_with, texts_asked, from_said, request_by, request_met, is_set, kind_said, usage_line, wants_key, RefusesWords, RefusesMet, WordsAsk, fault_told, number_if_any, number_upto};
+ghost use Rattle.office_command_line.specs.Requests.{request_content, init_request, account_request, migrate_request, close_request, explain_asked, deliver_request, serve_request, texts_asked, from_said, request_by, request_met, is_set, usage_line, RefusesWords, RefusesMet, WordsAsk, fault_told, number_if_any, number_upto};
 
 use crate::builders::office_command;
+use crate::report_reading::report_in;
 use clap::error::ErrorKind;
 use clap::{ArgMatches, Error};
-use office_reports::{ReportKind, number_of, passed_of};
+use office_reports::{ReportKind, View, number_of, passed_of};
 use std::alloc::Global;
 use std::fmt;
 
@@ -95,6 +96,8 @@ pub enum Request<'a> {
         store: &'a str,
         /// What the report is about.
         kind: ReportKind,
+        /// As what it is printed.
+        view: View,
         /// Which container, list, interchange or partner it is about; none for a report on the whole yard, on all partners
         /// or on the office.
         key: Option<&'a str>,
@@ -252,14 +255,6 @@ fn serve_in<'a>(matches: &ArgMatches<'a>) -> Option<Request<'a>>
     })
 }
 
-fn report_in<'a>(matches: &ArgMatches<'a>) -> Option<Request<'a>>
-    ensures { option_map request_content result ≡ report_request (rows_of (found_of matches.now)) }
-{
-    let store = text_of(matches, "DB")?;
-    let word = text_of(matches, "KIND")?;
-    report_said(store, word, text_of(matches, "KEY"))
-}
-
 fn texts_in<'a>(matches: &ArgMatches<'a>) -> Option<Request<'a>>
     ensures { option_map request_content result ≡ texts_asked (rows_of (found_of matches.now)) }
 {
@@ -301,90 +296,8 @@ fn explain_in<'a>(matches: &ArgMatches<'a>) -> Option<Request<'a>>
     Some(Request::Explain { file, partners })
 }
 
-/// A report of the kind that a word says.
-fn report_said<'a>(store: &'a str, word: &str, key: Option<&'a str>) -> Option<Request<'a>>
-    ensures { option_map request_content result
-        ≡ report_said store.entry.now word.now (option_map (λ text. text.now) key.entry) }
-{
-    if word == "archives" {
-        return archives_with(store, key);
-    }
-    let kind = kind_of(word)?;
-    report_with(store, kind, key)
-}
-
-/// The report on the store's archives, which has no key.
-fn archives_with<'a>(store: &'a str, key: Option<&'a str>) -> Option<Request<'a>>
-    ensures { option_map request_content result
-        ≡ archives_with store.entry.now (option_map (λ text. text.now) key.entry) }
-{
-    match key {
-        None => Some(Request::Archives { store }),
-        Some(_) => None,
-    }
-}
-
-/// The report, if a key is given where one is wanted and nowhere else.
-fn report_with<'a>(store: &'a str, kind: ReportKind, key: Option<&'a str>) -> Option<Request<'a>>
-    ensures { option_map request_content result
-        ≡ report_with store.entry.now kind (option_map (λ text. text.now) key.entry) }
-{
-    if wants_key(kind) == key.is_some() {
-        Some(Request::Report { store, kind, key })
-    } else {
-        None
-    }
-}
-
-fn wants_key(kind: ReportKind) -> bool
-    ensures { result ≡ wants_key kind }
-{
-    match kind {
-        ReportKind::Yard
-        | ReportKind::YardTable
-        | ReportKind::Partners
-        | ReportKind::Blocks
-        | ReportKind::Calls
-        | ReportKind::Picture
-        | ReportKind::Health
-        | ReportKind::Metrics => false,
-        ReportKind::Visits
-        | ReportKind::List
-        | ReportKind::Ticket
-        | ReportKind::Reply
-        | ReportKind::Container
-        | ReportKind::Work
-        | ReportKind::Contrl
-        | ReportKind::Partner => true,
-    }
-}
-
-fn kind_of(word: &str) -> Option<ReportKind>
-    ensures { result ≡ kind_said word.now }
-{
-    match word {
-        "yard" => Some(ReportKind::Yard),
-        "yardcsv" => Some(ReportKind::YardTable),
-        "visits" => Some(ReportKind::Visits),
-        "list" => Some(ReportKind::List),
-        "ticket" => Some(ReportKind::Ticket),
-        "reply" => Some(ReportKind::Reply),
-        "container" => Some(ReportKind::Container),
-        "work" => Some(ReportKind::Work),
-        "partners" => Some(ReportKind::Partners),
-        "blocks" => Some(ReportKind::Blocks),
-        "calls" => Some(ReportKind::Calls),
-        "contrl" => Some(ReportKind::Contrl),
-        "picture" => Some(ReportKind::Picture),
-        "partner" => Some(ReportKind::Partner),
-        "health" => Some(ReportKind::Health),
-        "metrics" => Some(ReportKind::Metrics),
-        _ => None,
-    }
-}
-
 /// Whether an option without a value is there: `clap` gives it one of two values.
-fn is_set(matches: &ArgMatches<'_>, name: &str) -> bool
+pub(crate) fn is_set(matches: &ArgMatches<'_>, name: &str) -> bool
     ensures { result ≡ is_set name.now (rows_of (found_of matches.now)) }
 {
     match text_of(matches, name) {
@@ -394,7 +307,7 @@ fn is_set(matches: &ArgMatches<'_>, name: &str) -> bool
 }
 
 /// The word that was given for an argument.
-fn text_of<'a>(matches: &ArgMatches<'a>, id: &str) -> Option<&'a str>
+pub(crate) fn text_of<'a>(matches: &ArgMatches<'a>, id: &str) -> Option<&'a str>
     ensures { option_map (λ text. text.now) result ≡ first_of id.now (rows_of (found_of matches.now)) }
 {
     matches.get_str(id)

@@ -3,6 +3,7 @@
 
 mod builders;
 mod command_reading;
+mod report_reading;
 
 pub use builders::REPORT_KINDS;
 pub use command_reading::{CommandFault, Request, read_command};

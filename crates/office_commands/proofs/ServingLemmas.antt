@@ -15,7 +15,7 @@ use Rattle.office_desk.specs.Desks.{IsSound, OpensAt, StandsFor}
 use Rattle.office_desk.{specs.{Looking.{DeskShows, ShowsAfter}, declared.desk.Desk.Desk}, proofs.OwnNumbers.answers_alike}
 use Rattle.office_commands.{specs.{Delivering.StandsAlike, Opening.BeginsAt, Ending.{Prints, Tells as TellsText}}, proofs.Alike.{account_alike, answer_alike}}
 use Rattle.office_commands.specs.Serving.{EndsServing, listening_line, served_line, IsServed, AreServed, postponed_event, HasNoEvent, MayBeThere, LeadsNamed, EnrolsNamed, AreServedBy, IsServedAlone}
-use Rattle.office_commands.proofs.{ReportLemmas.after_alike, StreamLemmas.stand_alike}
+use Rattle.office_commands.proofs.{ReportLemmas.found_alike, StreamLemmas.stand_alike}
 use Rattle.office_replies.specs.declared.accounts.AccountAnswer.TheVariants as account_answer
 use Rattle.office_replies.specs.declared.deliver.Response.TheVariants as response
 
@@ -67,7 +67,7 @@ served_by {W} {D} inner outer_leads outer_enrols leads enrols looks count first 
 
 module _ (one other : SetupContent) (says : SaysSame one other) where
   shown_alike : (es : List Event) (at : Look) (found : Option (List ℕ)) → ShowsAfter one es at found → ShowsAfter other es at found
-  shown_alike es (report query) found told = after_alike one other says es query found told
+  shown_alike es (report query) found told = found_alike one other says es query found told
   shown_alike es (texts_after from) found told =
       record { db = told.db; rows = told.rows; has = told.has; after = (answers_alike one other says es).rows told.rows told.after; pages = told.pages }
   shown_alike es (of_archive place query) found told = told

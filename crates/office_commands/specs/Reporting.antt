@@ -7,8 +7,8 @@ use Rattle.office_replies.specs.{Events.Event, StreamLines.line}
 use Rattle.office_admission.specs.Setups.{SetupContent}
 use Rattle.office_rows.specs.{Rows.Rows, Stored.HasRows, Tables.office_schema}
 use Rattle.office_loading.specs.Tables.{Loads}
-use Rattle.office_reports.specs.{Keys.{query_content, query_of}, declared.query.Query.Query, declared.query.ReportKind.ReportKind}
-use Rattle.office_desk.specs.Reports.{TellsOf, TellsAfter}
+use Rattle.office_reports.specs.{Keys.{query_content, query_of}, declared.query.Query.Query, declared.query.ReportKind.ReportKind, declared.query.View.View}
+use Rattle.office_desk.specs.Reports.{FindsAfter, TellsOf}
 use Rattle.office_commands.specs.Opening.{BeginsAt, HoldsTables}
 
 -- ---- the text and the status
@@ -36,11 +36,11 @@ pub record Reports (is_found : Option (List ℕ) → Type 0) (prints : List ℕ 
 
 -- ---- what is found
 
--- what is reported at the query that a key asks for; nothing, if it asks for none
-abbrev pub TellsKey : (tells : Query → Option (List ℕ) → Type 0) → ReportKind → List ℕ → Option (List ℕ) → Type 0
-TellsKey tells kind key found =
-    ((query_of kind key ≡ None) × (found ≡ None))
-    ⊎ ((query : Query) × (query_of kind key ≡ Some (query_content query)) × tells query found)
+-- what is reported at the query that a key asks for, shown so; nothing, if it asks for none
+abbrev pub TellsKey : (tells : Query → Option (List ℕ) → Type 0) → ReportKind → View → List ℕ → Option (List ℕ) → Type 0
+TellsKey tells kind view key found =
+    ((query_of kind view key ≡ None) × (found ≡ None))
+    ⊎ ((query : Query) × (query_of kind view key ≡ Some (query_content query)) × tells query found)
 
 abbrev pub office_database : Trees → Database
 office_database db = record { schema = office_schema; trees = db }
@@ -53,7 +53,7 @@ pub record TellsOver (db : Trees) (query : Query) (found : Option (List ℕ)) : 
   pub tells : (rows : Rows) → HasRows rows (office_database db) → TellsOf content terminal rows query found
 
 -- what the files' rows tell: those after some events what these led to, and those of any office what they are
-pub record TellsHeld (image : Image) (kind : ReportKind) (key : List ℕ) (found : Option (List ℕ)) : Type 0 where
+pub record TellsHeld (image : Image) (kind : ReportKind) (view : View) (key : List ℕ) (found : Option (List ℕ)) : Type 0 where
   pub after : (content : SetupContent) (es : List Event) → BeginsAt image content es →
-      TellsKey (TellsAfter content es) kind key found
-  pub office : (db : Trees) → HoldsTables image db → TellsKey (TellsOver db) kind key found
+      TellsKey (FindsAfter content es) kind view key found
+  pub office : (db : Trees) → HoldsTables image db → TellsKey (TellsOver db) kind view key found

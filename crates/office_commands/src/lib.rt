@@ -37,8 +37,8 @@ pub use register::{
 pub use reports::{in_lines, report_over};
 pub use serving::{Service, serve_named, serve_over};
 pub use telling::{
-    COMMAND_LINE, DONE, FAILED, Faults, HasTerminal, REFUSED, Tallied, demonstrate, print, tell,
-    tell_fault, tell_open_fault, tell_outcome,
+    COMMAND_LINE, DONE, FAILED, Faults, REFUSED, Tallied, demonstrate, print, tell, tell_fault,
+    tell_open_fault, tell_outcome,
 };
 pub use texts::{print_texts, texts_over};
 pub use whole::{Left, leave_office, leave_whole};

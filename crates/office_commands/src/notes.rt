@@ -4,7 +4,7 @@ ghost use Rattle.office_commands.specs.Noting.{account_note, delivery_note};
 use crate::telling::{Faults, Tallied};
 use edi_syntax::{Head, interchange_text};
 use office_admission::Tally;
-use office_http::{OfTerminal, Seen, Watch};
+use office_http::{Seen, Watch};
 use office_replies::{
     AccountAnswer, AccountFault, AddAccount, Cut, Deliver, Fault, Response, StreamFault, Worst,
 };
@@ -244,14 +244,6 @@ impl<D: Report + Faults + Tallied, N: Notes> Report for Noted<'_, D, N> {
         let found = self.desk.archive_report(alloc, place, query);
         self.notes.answered();
         found
-    }
-}
-
-impl<D: OfTerminal, N> OfTerminal for Noted<'_, D, N> {
-    ghost terminal_name = { λ noted. D.terminal_name noted.desk };
-
-    fn terminal(&self) -> &str {
-        self.desk.terminal()
     }
 }
 

@@ -7,11 +7,10 @@ ghost use Rattle.office_tables.specs.Faults.{IsOfStore};
 ghost use Rattle.sqlite.specs.{Files.file_state, State.{HasCleanDisk, Opens}, Tree.Trees, WalFiles.image_at};
 
 use crate::first_page::begin_file;
-use crate::telling::{Faults, HasTerminal, Tallied};
+use crate::telling::{Faults, Tallied};
 use office_admission::{Setup, Tally};
 use office_archives::Looked;
 use office_desk::Desk;
-use office_http::OfTerminal;
 use office_loading::Closed;
 use office_replies::{AccountAnswer, AddAccount, Deliver, Response};
 use office_reports::{NotNow, Query, Report};
@@ -287,14 +286,6 @@ impl<D: Report + Faults, F: Names> Report for Named<D, F> {
         query: &Query,
     ) -> Result<Option<String>, NotNow> {
         self.desk.archive_report(alloc, place, query)
-    }
-}
-
-impl<D: HasTerminal, F> OfTerminal for Named<D, F> {
-    ghost terminal_name = { λ named. D.terminal_of named.desk };
-
-    fn terminal(&self) -> &str {
-        self.desk.terminal_name()
     }
 }
 

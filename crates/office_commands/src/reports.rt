@@ -9,14 +9,14 @@ use crate::offices::{FileOffice, OpenFault, open_to_look};
 use crate::telling::{DONE, REFUSED, print};
 use office_archives::{ArchivedDesk, Archives};
 use office_replies::Port;
-use office_reports::{ReportKind, read_query};
+use office_reports::{ReportKind, View, read_query};
 use office_tables::TableFault;
 use sqlite::{Alter, Start};
 use std::alloc::{AllocError, Global};
 use std::io::Write;
 
-/// Prints the report that a key asks for, from the store or the archive at a path, with its own archives, and answers the office
-/// as it was left and the exit status: 0, 1 if there is nothing to report, which prints `none`, and 3 if printing failed; or the
+/// Prints the report that a key asks for, shown so, from the store or the archive at a path, with its own archives, and answers
+/// the office as it was left and the exit status: 0, 1 if there is nothing to report, which prints `none`, and 3 if printing failed; or the
 /// fault for which nothing was printed. A fault without an office is that for which it did not open.
 pub fn report_over<S: Start, A: Archives + Drop, M: ArchivesBeside<A>, W: Write>(
     rt: &HostRuntime,
@@ -24,6 +24,7 @@ pub fn report_over<S: Start, A: Archives + Drop, M: ArchivesBeside<A>, W: Write>
     start: S,
     beside: &M,
     kind: ReportKind,
+    view: View,
     key: &str,
     writer: &mut Port<W>,
 ) -> Result<(FileOffice<S, A>, Result<u8, TableFault>), OpenFault>
@@ -31,7 +32,7 @@ pub fn report_over<S: Start, A: Archives + Drop, M: ArchivesBeside<A>, W: Write>
     // office reports.
     ensures ok { IfOk result (λ ended. IfOk ended.1 (λ status. FromOpened over_files M.hold A.are (image_at S.Start) (λ opened.
         Reports (IsReportedOver over_files A.is_sound A.are (image_at S.Start) opened
-        (ended.0.desk, ended.0.archives) kind key.now)
+        (ended.0.desk, ended.0.archives) kind view key.now)
         (Prints writer.old.failed writer.new.failed writer.new.flushed
         (W.contents writer.old.inner) (W.contents writer.new.inner)) status))) }
 
@@ -42,34 +43,35 @@ pub fn report_over<S: Start, A: Archives + Drop, M: ArchivesBeside<A>, W: Write>
 
     // Why it can't be reported, of what the store's own rows report; and why the store is not opened.
     ensures fault { IfOk result (λ ended. IfErr ended.1 (λ fault. FromOpened ⟦<sqlite::FileStore<sqlite::FileFrom<S>> as sqlite_trees::store::Store>⟧ M.hold A.are (image_at S.Start)
-        (λ opened. IsSound over_files ended.0.desk → FailsUnder over_files A.are opened kind key.now fault))) }
+        (λ opened. IsSound over_files ended.0.desk → FailsUnder over_files A.are opened kind view key.now fault))) }
     ensures refused { IfErr result (λ fault. IsRefused ⟦<sqlite::FileStore<sqlite::FileFrom<S>> as sqlite_trees::store::Store>⟧ (image_at S.Start) ⊥ fault × (writer.new ≡ writer.old)) }
 {
     let mut office = open_to_look(rt, store, start, beside)?;
-    let status = report_on(rt.alloc(), &mut office, kind, key, writer);
+    let status = report_on(rt.alloc(), &mut office, kind, view, key, writer);
     Ok((office, status))
 }
 
-/// Prints the report that a key asks for, from a store and its archives, and answers the exit status. It only looks.
+/// Prints the report that a key asks for, shown so, from a store and its archives, and answers the exit status. It only looks.
 fn report_on<S: Alter + Drop, A: Archives + Drop, W: Write>(
     alloc: Global,
     office: &mut ArchivedDesk<S, A>,
     kind: ReportKind,
+    view: View,
     key: &str,
     writer: &mut Port<W>,
 ) -> Result<u8, TableFault>
     ensures ok { IfOk result (λ status. (image : Image) → OpensOn S.Store image office.old.desk →
         Reports (IsReportedOver S.Store A.is_sound A.are image (office.old.desk, office.old.archives)
-        (office.new.desk, office.new.archives) kind key.now)
+        (office.new.desk, office.new.archives) kind view key.now)
         (Prints writer.old.failed writer.new.failed writer.new.flushed
         (W.contents writer.old.inner) (W.contents writer.new.inner)) status) }
     ensures looks { (image : Image) →
         LooksOver S.Store A.are image (office.old.desk, office.old.archives) (office.new.desk, office.new.archives) }
     ensures err { OnErr result (writer.new ≡ writer.old) }
     ensures fault { IsSound S.Store office.new.desk →
-        IfErr result (FailsUnder S.Store A.are (office.old.desk, office.old.archives) kind key.now) }
+        IfErr result (FailsUnder S.Store A.are (office.old.desk, office.old.archives) kind view key.now) }
 {
-    match find(alloc, office, kind, key)? {
+    match find(alloc, office, kind, view, key)? {
         Some(text) => {
             let lines = in_lines(text)?;
             Ok(print(writer, lines.as_str(), DONE))
@@ -78,22 +80,23 @@ fn report_on<S: Alter + Drop, A: Archives + Drop, W: Write>(
     }
 }
 
-/// What a store and its archives report under a key, if there is something.
+/// What a store and its archives report under a key, shown so, if there is something.
 fn find<S: Alter + Drop, A: Archives + Drop>(
     alloc: Global,
     office: &mut ArchivedDesk<S, A>,
     kind: ReportKind,
+    view: View,
     key: &str,
 ) -> Result<Option<String>, TableFault>
     ensures found { IfOk result (λ found. (image : Image) → OpensOn S.Store image office.old.desk →
         IsReportedOver S.Store A.is_sound A.are image (office.old.desk, office.old.archives)
-        (office.new.desk, office.new.archives) kind key.now (option_map string_bytes found)) }
+        (office.new.desk, office.new.archives) kind view key.now (option_map string_bytes found)) }
     ensures looks { (image : Image) →
         LooksOver S.Store A.are image (office.old.desk, office.old.archives) (office.new.desk, office.new.archives) }
     ensures fault { IsSound S.Store office.new.desk →
-        IfErr result (FailsUnder S.Store A.are (office.old.desk, office.old.archives) kind key.now) }
+        IfErr result (FailsUnder S.Store A.are (office.old.desk, office.old.archives) kind view key.now) }
 {
-    match read_query(alloc, kind, key)? {
+    match read_query(alloc, kind, view, key)? {
         Some(query) => office.find_report(alloc, &query),
         None => Ok(None),
     }

@@ -8,9 +8,9 @@ use crate::beside::ArchivesBeside;
 use crate::notes::{Noted, Notes, Watching};
 use crate::offices::{FileOffice, OpenFault, open_office};
 use crate::opening::{Named, StoreFile};
-use crate::telling::{DONE, FAILED, Faults, HasTerminal, Tallied, print, tell};
+use crate::telling::{DONE, FAILED, Faults, Tallied, print, tell};
 use office_archives::{ArchivedDesk, Archives};
-use office_http::{Gate, OfTerminal, Site, serve_on};
+use office_http::{Gate, Site, serve_on};
 use office_replies::{AddAccount, Port};
 use office_reports::Report;
 use sqlite::{Alter, Start};
@@ -61,12 +61,7 @@ pub fn serve_over<S: Start, A: Archives + Drop, M: ArchivesBeside<A>, N: Notes, 
 }
 
 /// Serves what a desk over the store at a path answers, whatever desk it is, and gives it back as it was left.
-pub fn serve_named<
-    D: Report + AddAccount + Faults + HasTerminal + Tallied,
-    N: Notes,
-    W: Write,
-    E: Write,
->(
+pub fn serve_named<D: Report + AddAccount + Faults + Tallied, N: Notes, W: Write, E: Write>(
     rt: &HostRuntime,
     path: &str,
     desk: D,
@@ -108,7 +103,7 @@ fn serve_desk<S: Alter + Drop, A: Archives + Drop, N: Notes, W: Write, E: Write>
 }
 
 /// Listens at a port of this machine, and answers one request of each connection.
-fn serve_at<D: Report + AddAccount + OfTerminal, N: Notes, W: Write, E: Write>(
+fn serve_at<D: Report + AddAccount, N: Notes, W: Write, E: Write>(
     rt: &HostRuntime,
     desk: &mut D,
     service: Service<'_>,

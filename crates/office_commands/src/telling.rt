@@ -1,4 +1,4 @@
-ghost use Rattle.std.specs.{Io.KnownBytes.Appends, Prelude.{◌≡◌, List, ℕ, true, OnOk, OnErr, string_bytes}};
+ghost use Rattle.std.specs.{Io.KnownBytes.Appends, Prelude.{◌≡◌, true, OnOk, OnErr}};
 ghost use Rattle.office_commands.specs.{Command.DemoEnds, Demo.port_failures, Telling.open_text};
 ghost use Rattle.office_commands.specs.Ending.{Tells, Prints, status_of, store_text, stream_text, outcome_status, outcome_text};
 ghost use Rattle.office_replies.specs.{Fronts.AppendsFront, Streams.port_bytes};
@@ -161,24 +161,6 @@ impl<S: Alter, A: Archives> Faults for ArchivedDesk<S, A> {
 
     fn is_nameless(&self) -> bool {
         false
-    }
-}
-
-/// What knows the name of its terminal.
-pub trait HasTerminal {
-    /// That name.
-    ghost terminal_of: { Self → List ℕ };
-
-    /// The terminal's name.
-    fn terminal_name(&self) -> &str
-        ensures { result.now ≡ terminal_of self.now };
-}
-
-impl<S: Alter, A: Archives> HasTerminal for ArchivedDesk<S, A> {
-    ghost terminal_of = { λ office. string_bytes office.desk.setup.terminal };
-
-    fn terminal_name(&self) -> &str {
-        self.desk().terminal()
     }
 }
 

@@ -22,18 +22,22 @@ use Rattle.office_tables.specs.{Answers.{LacksNext, IsKept, IsNextOf}, Faults.Is
 use Rattle.office_tables.specs.{declared.table_fault.TableFault.TheVariants.{Store, Damaged, Version, Memory}, DeliveryReading.HasUnfitBehind}
 use Rattle.office_tables.specs.{Writing.{Commits, IsWholeInOrder}, declared.interchanges.Kept.Kept}
 use Rattle.office_tables.proofs.WriteLemmas.{one_kept, none_kept, no_text, text_kept}
-use Rattle.office_reports.specs.{declared.query.Query.Query, Tickets.ticket_text, Contrls.contrl_in}
+use Rattle.office_reports.specs.declared.query.About.{About}
+use Rattle.office_reports.specs.Tickets.{ticket_of as told_ticket}
+use Rattle.office_reports.specs.declared.query.View.{View}
 use Rattle.office_desk.specs.{Causes.{AsksUnfitReply, AsksUnreadable, HasUnfitReplyOf, LacksReply, LacksSome}, Offices.FailsToOpen, Beside.IsAt, Noting.IsNow}
-use Rattle.office_desk.specs.{Reports.{partner_called, TellsReply, reply_text, ticket_if_taken}, Telling.{Comes, Holds}, declared.beside.Beside.Beside}
+use Rattle.office_desk.specs.{Reports.{answered, partner_called, TellsReply, contrl_told, ticket_if_taken}, Telling.{Comes, Holds}}
 use Rattle.office_desk.specs.Order.{IsInOrder, IsRunInOrder, IsStoredInOrder, LeavesBehindInOrder, LeavesEitherInOrder, LeavesInOrder, LeavesTakenInOrder, stored, with_taken}
-use Rattle.office_desk.proofs.{HoldLemmas.{nexts_are, either_of, reply_kept}, DeliverLemmas.{KeepsAccounts, next_follows, next_there, parties_same}}
-use Rattle.office_desk.proofs.OwnNumbers.{own_reply}
+use Rattle.office_desk.{specs.declared.beside.Beside.Beside, proofs.{HoldLemmas.{nexts_are, either_of, reply_kept}, OwnNumbers.own_reply}}
+use Rattle.office_desk.proofs.DeliverLemmas.{KeepsAccounts, next_follows, next_there, parties_same}
 use Rattle.edi_syntax.specs.Interchange.{interchange_of}
 use Rattle.office_replies.specs.{Delivering.with_answered, Events.{Event, delivered, added}, declared.deliver.Fault.Fault, declared.deliver.Response.Response}
 use Rattle.office_parts.specs.InOrder.{AreAfterInOrder}
 use Rattle.office_parts.proofs.JournalOrders.{refused_stays_in_order, used_stays_in_order, early_adds_in_order, next_adds_in_order, account_stays_in_order}
+use Rattle.office_report_data.specs.Told.{shown}
+use Rattle.office_report_data.specs.Told as value
 use Rattle.office_rows.specs.Tables as table
-use Rattle.office_reports.specs.declared.query.Query.TheVariants as query
+use Rattle.office_reports.specs.declared.query.About.TheVariants as about
 use Rattle.office_replies.specs.declared.deliver.Response.TheVariants as response
 
 -- ---- the next numbers
@@ -136,17 +140,18 @@ reply_unfit closed content rows its number (Some p) within (inl unfit) = unfit
 reply_unfit closed content rows its number (Some p) within (inr lacks) = let known = within p refl in absurd (next_fits closed content rows its p known.0 known.1 lacks)
 
 -- of an office's rows all is read but a reply that is no text
-pub asked_unfit : (closed : ClosedContent) (content : SetupContent) (rows : Rows) → (its : KeepsAccounts closed content rows) → (asked : Query) → AsksUnreadable content rows asked → AsksUnfitReply content rows asked
-asked_unfit closed content rows its (query.Ticket partner number) lacks = lacks
-asked_unfit closed content rows its (query.Contrl partner number) lacks = lacks
-asked_unfit closed content rows its (query.Reply partner number) lacks =
+pub asked_unfit : (closed : ClosedContent) (content : SetupContent) (rows : Rows) → (its : KeepsAccounts closed content rows) → (asked : About) → AsksUnreadable content rows asked → AsksUnfitReply content rows asked
+asked_unfit closed content rows its (about.Ticket partner number) lacks = lacks
+asked_unfit closed content rows its (about.Contrl partner number) lacks = lacks
+asked_unfit closed content rows its (about.Reply partner number) lacks =
     reply_unfit closed content rows its number (partner_called content (string_bytes partner))
     (λ p is. let low = found_low 1 (string_bytes partner) (parties_in content).partners p is in (low.0, omega (arith, low.1, length-map content.partners (λ (account : List ℕ × PartnerKind). account.0)))) lacks
-asked_unfit closed content rows its query.Partners lacks = absurd (numbers_fit closed content rows its lacks)
-asked_unfit closed content rows its (query.Partner code) lacks = absurd (numbers_fit closed content rows its lacks)
-asked_unfit closed content rows its (query.Next code) lacks = absurd (numbers_fit closed content rows its lacks)
-asked_unfit closed content rows its query.Health lacks = absurd (numbers_fit closed content rows its lacks)
-asked_unfit closed content rows its query.Metrics lacks = absurd (numbers_fit closed content rows its lacks)
+asked_unfit closed content rows its about.Partners lacks = absurd (numbers_fit closed content rows its lacks)
+asked_unfit closed content rows its (about.Partner code) lacks = absurd (numbers_fit closed content rows its lacks)
+asked_unfit closed content rows its (about.Next code) lacks = absurd (numbers_fit closed content rows its lacks)
+asked_unfit closed content rows its about.Health lacks = absurd (numbers_fit closed content rows its lacks)
+asked_unfit closed content rows its about.Metrics lacks = absurd (numbers_fit closed content rows its lacks)
+asked_unfit closed content rows its about.Start lacks = absurd (numbers_fit closed content rows its lacks)
 asked_unfit closed content rows its others lacks = absurd lacks
 
 -- ==== OrderLemmas: Interchanges that stand in the order of arrival, after one event more.
@@ -265,21 +270,21 @@ module _ (rows : Rows) (partner number : ℕ) (once : AreKeptOnce rows.interchan
   reply_of_kept None is = no_reply partner number rows is
   reply_of_kept (Some kept) is = reply_kept partner number rows kept once is
 
-  pub told_kept : (code : List ℕ) (kept : Kept) (next : ℕ) (text : List ℕ) → IsKept partner number rows (Some kept) → IsNextOf partner rows next →
-      text ≡ reply_text next code number (option_map string_bytes kept.reply) →
-      TellsReply rows code partner number (text_in rows partner number) (reply_in rows partner number) (Some text)
-  told_kept code kept next text is is_next told =
-      subst (λ t. TellsReply rows code partner number t (reply_in rows partner number) (Some text)) (sym (text_kept partner number rows kept once is))
-      (next, is_next, ap Some (told ∙ ap (reply_text next code number) (sym (reply_kept partner number rows kept once is))))
+  pub told_kept : (code : List ℕ) (kept : Kept) (next : ℕ) → IsKept partner number rows (Some kept) → IsNextOf partner rows next →
+      TellsReply rows code partner number (text_in rows partner number) (reply_in rows partner number) (Some (answered code number next (option_map string_bytes kept.reply)))
+  told_kept code kept next is is_next =
+      subst (λ t. TellsReply rows code partner number t (reply_in rows partner number) (Some (answered code number next (option_map string_bytes kept.reply)))) (sym (text_kept partner number rows kept once is))
+      (next, is_next, ap (λ reply. Some (answered code number next reply)) (sym (reply_kept partner number rows kept once is)))
 
   pub told_nothing : (code : List ℕ) → IsKept partner number rows None → TellsReply rows code partner number (text_in rows partner number) (reply_in rows partner number) None
   told_nothing code none = subst (λ t. TellsReply rows code partner number t (reply_in rows partner number) None) (sym (no_text partner number rows none)) refl
 
   pub ticket_there : (code : List ℕ) (visits : List VisitContent) (kept : Option Kept) (text : List ℕ) → IsKept partner number rows kept → is_some (option_and_then (λ (k : Kept). k.reply) kept) ≡ true →
-      text ≡ ticket_text code (record { partner = partner; number = number }) visits → Some text ≡ ticket_if_taken visits code partner number (reply_in rows partner number)
-  ticket_there code visits kept text is there told =
+      (view : View) → text ≡ shown view (value.ticket (told_ticket code (record { partner = partner; number = number }) visits)) →
+      Some text ≡ option_map (shown view) (ticket_if_taken visits code partner number (reply_in rows partner number))
+  ticket_there code visits kept text is there view told =
       let found = some_of (option_and_then (λ (k : Kept). k.reply) kept) there in
-      ap Some told ∙ sym (ap (ticket_if_taken visits code partner number) (reply_of_kept kept is ∙ ap (option_map string_bytes) found.1))
+      ap Some told ∙ sym (ap (λ reply. option_map (shown view) (ticket_if_taken visits code partner number reply)) (reply_of_kept kept is ∙ ap (option_map string_bytes) found.1))
 
   pub no_ticket : (code : List ℕ) (visits : List VisitContent) (kept : Option Kept) → IsKept partner number rows kept → is_some (option_and_then (λ (k : Kept). k.reply) kept) ≡ false →
       None ≡ ticket_if_taken visits code partner number (reply_in rows partner number)
@@ -287,9 +292,9 @@ module _ (rows : Rows) (partner number : ℕ) (once : AreKeptOnce rows.interchan
       sym (ap (ticket_if_taken visits code partner number) (reply_of_kept kept is ∙ ap (option_map string_bytes) (none_of (option_and_then (λ (k : Kept). k.reply) kept) none)))
 
   -- the CONTRL of the reply that is kept
-  pub contrl_kept : (kept : Option Kept) (reply : Option (List ℕ)) → IsKept partner number rows kept → reply ≡ option_map string_bytes (option_and_then (λ (k : Kept). k.reply) kept) →
-      option_and_then contrl_in reply ≡ option_and_then contrl_in (reply_in rows partner number)
-  contrl_kept kept reply is told = ap (option_and_then contrl_in) (told ∙ sym (reply_of_kept kept is))
+  pub contrl_kept : (code : List ℕ) (view : View) (kept : Option Kept) (reply : Option (List ℕ)) → IsKept partner number rows kept → reply ≡ option_map string_bytes (option_and_then (λ (k : Kept). k.reply) kept) →
+      option_map (shown view) (contrl_told code number reply) ≡ option_map (shown view) (contrl_told code number (reply_in rows partner number))
+  contrl_kept code view kept reply is told = ap (λ found. option_map (shown view) (contrl_told code number found)) (told ∙ sym (reply_of_kept kept is))
 
 -- who is found among the accounts
 pub called : (setup : Setup) (code own : List ℕ) (found : Option ℕ) → found ≡ partner_from 1 code (partner_codes setup.partners.items) → code ≡ own →

@@ -8,3 +8,4 @@ pub mod KeptLemmas
 pub mod PageLemmas
 pub mod LookLemmas
 pub mod NextLemmas
+pub mod Values

@@ -25,7 +25,8 @@ use Rattle.office_desk.proofs.AccountLemmas.{found_by_code}
 use Rattle.sqlite_trees.specs.declared.store.Store.{Ghosts}
 use Rattle.office_parts.specs.Journal.{kept_texts}
 use Rattle.edi_messages.specs.declared.codes.PartnerKind.{PartnerKind}
-use Rattle.office_reports.specs.{Partners.{PartnerContent, partner_content, partner_line}, declared.partners.Partner.Partner}
+use Rattle.office_reports.specs.{Partners.{PartnerContent, partner_content, row_of}, declared.partners.Partner.Partner}
+use Rattle.office_report_data.specs.Told as value
 use Rattle.office_replies.specs.declared.deliver.Response.TheVariants as response
 
 -- ==== LeavingLemmas: What a crash leaves of an office's rows after one delivery.
@@ -294,15 +295,16 @@ looked_up_more rows accounts i account olds news partner low at pushed are one =
     (more rows 1 (i + 1) (account_contents (take i accounts)) (map partner_content olds) (said account) (partner_content partner) (omega (arith, long)) are one))
 
 -- the one that a code names
-pub told_one : (rows : Rows) (accounts : List Account) (code : List ℕ) (index : ℕ) (account : Account) (partner : Partner) (text : List ℕ) → index < length accounts → account ≡ get_or accounts index account
-    → Some index ≡ partner_from 0 code (partner_codes accounts) → IsLookedUp rows (index + 1) (said account) (partner_content partner) → text ≡ partner_line (partner_content partner)
-    → TellsPartner rows (account_contents accounts) (partner_from 1 code (map (λ (pair : List ℕ × PartnerKind). pair.0) (account_contents accounts))) (Some text)
-told_one rows accounts code index account partner text low at found is told =
+pub told_one : (rows : Rows) (accounts : List Account) (code : List ℕ) (index : ℕ) (account : Account) (partner : Partner) → index < length accounts → account ≡ get_or accounts index account
+    → Some index ≡ partner_from 0 code (partner_codes accounts) → IsLookedUp rows (index + 1) (said account) (partner_content partner)
+    → TellsPartner rows (account_contents accounts) (partner_from 1 code (map (λ (pair : List ℕ × PartnerKind). pair.0) (account_contents accounts)))
+    (Some (value.partner (row_of (partner_content partner))))
+told_one rows accounts code index account partner low at found is =
     let place : index + 1 - 1 ≡ index = omega arith in
     let there : slice_get (account_contents accounts) (index + 1 - 1) ≡ Some (said account) =
     ap (slice_get (account_contents accounts)) place ∙ slice_get-map said accounts index ∙ ap (option_map said) (slice_get_read accounts (length accounts) index account refl low at) in
-    subst (λ (o : Option ℕ). TellsPartner rows (account_contents accounts) o (Some text)) (sym (found_by_code accounts code (Some index) found))
-    (said account, there, (partner_content partner, is, ap Some told))
+    subst (λ (o : Option ℕ). TellsPartner rows (account_contents accounts) o (Some (value.partner (row_of (partner_content partner))))) (sym (found_by_code accounts code (Some index) found))
+    (said account, there, (partner_content partner, is, refl))
 
 pub told_of_none : (rows : Rows) (accounts : List Account) (code : List ℕ) → None ≡ partner_from 0 code (partner_codes accounts)
     → TellsPartner rows (account_contents accounts) (partner_from 1 code (map (λ (pair : List ℕ × PartnerKind). pair.0) (account_contents accounts))) None

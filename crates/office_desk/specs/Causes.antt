@@ -1,12 +1,12 @@
 -- Why a report can't be reported.
 use Rattle.std.specs.Prelude.{◌⊎◌, ℕ, ◌≤◌, length, Option, None, Some, string_bytes}
 use Rattle.office_loading.specs.Waiting.{HasHighWaiting}
-use Rattle.office_reports.specs.declared.query.Query.{Query}
+use Rattle.office_reports.specs.declared.query.About.{About}
 use Rattle.office_rows.specs.Rows.{Rows}
 use Rattle.office_admission.specs.Setups.{SetupContent}
 use Rattle.office_tables.specs.Answers.{HasUnfitReply, LacksNext}
 use Rattle.office_desk.specs.Reports.{partner_called}
-use Rattle.office_reports.specs.declared.query.Query.TheVariants as query
+use Rattle.office_reports.specs.declared.query.About.TheVariants as about
 
 -- ---- over the rows of an office
 
@@ -15,13 +15,13 @@ abbrev pub HasUnfitReplyOf : Rows → ℕ → Option ℕ → Type 0
 HasUnfitReplyOf rows number None = ⊥
 HasUnfitReplyOf rows number (Some partner) = HasUnfitReply partner number rows
 
--- the query is one of an interchange's reply, and this is no text
-abbrev pub AsksUnfitReply : SetupContent → Rows → Query → Type 0
-AsksUnfitReply content rows (query.Ticket partner number) =
+-- it is asked about an interchange's reply, and this is no text
+abbrev pub AsksUnfitReply : SetupContent → Rows → About → Type 0
+AsksUnfitReply content rows (about.Ticket partner number) =
     HasUnfitReplyOf rows number (partner_called content (string_bytes partner))
-AsksUnfitReply content rows (query.Reply partner number) =
+AsksUnfitReply content rows (about.Reply partner number) =
     HasUnfitReplyOf rows number (partner_called content (string_bytes partner))
-AsksUnfitReply content rows (query.Contrl partner number) =
+AsksUnfitReply content rows (about.Contrl partner number) =
     HasUnfitReplyOf rows number (partner_called content (string_bytes partner))
 AsksUnfitReply content rows others = ⊥
 
@@ -40,17 +40,18 @@ abbrev pub LacksReply : Rows → ℕ → Option ℕ → Type 0
 LacksReply rows number None = ⊥
 LacksReply rows number (Some partner) = HasUnfitReply partner number rows ⊎ LacksNext partner rows
 
--- what the query asks of the tables can't be read
-abbrev pub AsksUnreadable : SetupContent → Rows → Query → Type 0
-AsksUnreadable content rows (query.Ticket partner number) =
+-- what is asked of the tables can't be read
+abbrev pub AsksUnreadable : SetupContent → Rows → About → Type 0
+AsksUnreadable content rows (about.Ticket partner number) =
     HasUnfitReplyOf rows number (partner_called content (string_bytes partner))
-AsksUnreadable content rows (query.Reply partner number) =
+AsksUnreadable content rows (about.Reply partner number) =
     LacksReply rows number (partner_called content (string_bytes partner))
-AsksUnreadable content rows (query.Contrl partner number) =
+AsksUnreadable content rows (about.Contrl partner number) =
     HasUnfitReplyOf rows number (partner_called content (string_bytes partner))
-AsksUnreadable content rows query.Partners = LacksSome rows (length content.partners)
-AsksUnreadable content rows (query.Partner code) = LacksSome rows (length content.partners)
-AsksUnreadable content rows (query.Next code) = LacksSome rows (length content.partners)
-AsksUnreadable content rows query.Health = LacksSome rows (length content.partners)
-AsksUnreadable content rows query.Metrics = LacksSome rows (length content.partners)
+AsksUnreadable content rows about.Partners = LacksSome rows (length content.partners)
+AsksUnreadable content rows (about.Partner code) = LacksSome rows (length content.partners)
+AsksUnreadable content rows (about.Next code) = LacksSome rows (length content.partners)
+AsksUnreadable content rows about.Health = LacksSome rows (length content.partners)
+AsksUnreadable content rows about.Metrics = LacksSome rows (length content.partners)
+AsksUnreadable content rows about.Start = LacksSome rows (length content.partners)
 AsksUnreadable content rows others = ⊥

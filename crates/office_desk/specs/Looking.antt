@@ -8,7 +8,7 @@ use Rattle.office_rows.specs.{Rows.Rows, Stored.HasRows, Tables.interchange_tabl
 use Rattle.office_history.specs.After.{AreAfter}
 use Rattle.office_reports.specs.Looking.{Look, of_archive, report, texts_after}
 use Rattle.office_loading.specs.Pages.{TellsLines, most_page_bytes}
-use Rattle.office_desk.specs.{Causes.AsksUnfitReply, Reports.{DeskTells, IsOpenFor, TellsAfter}, declared.desk.Desk.Desk}
+use Rattle.office_desk.specs.{Causes.AsksUnfitReply, Reports.{DeskTells, FindsAfter, IsOpenFor}, declared.desk.Desk.Desk}
 
 -- ---- the kept texts
 
@@ -39,18 +39,18 @@ DeskShows g desk (of_archive place query) found = found ≡ None
 
 -- what is reported of it after those events
 abbrev pub ShowsAfter : SetupContent → List Event → Look → Option (List ℕ) → Type 0
-ShowsAfter content es (report query) found = TellsAfter content es query found
+ShowsAfter content es (report query) found = FindsAfter content es query found
 ShowsAfter content es (texts_after from) found = HandsAfter content es from found
 ShowsAfter content es (of_archive place query) found = found ≡ None
 
 -- the reply that it tells of is no text; a page of texts is reported whatever their bytes are
 abbrev pub ShowsUnfitReply : SetupContent → Rows → Look → Type 0
-ShowsUnfitReply content rows (report query) = AsksUnfitReply content rows query
+ShowsUnfitReply content rows (report query) = AsksUnfitReply content rows query.about
 ShowsUnfitReply content rows (texts_after from) = ⊥
 ShowsUnfitReply content rows (of_archive place query) = ⊥
 
 -- the office can be asked only if its store is open
 abbrev pub IsOpenAt : Look → State → Type 0
-IsOpenAt (report query) s = IsOpenFor query s
+IsOpenAt (report query) s = IsOpenFor query.about s
 IsOpenAt (texts_after from) s = Unit {0}
 IsOpenAt (of_archive place query) s = Unit {0}

@@ -1,7 +1,7 @@
 ghost use Rattle.std.specs.Prelude.{◌≡◌, ◌<◌, false, length, string_bytes, IfOk, OnOk, OnErr, IsTrue, ◌≤◌, ◌++◌, [], ◌∷◌, Some, IfErr, map, option_map};
 ghost use Rattle.office_tables.specs.{DeliveryReading.OnlyReads, Writing.{IsWholeInOrder, WritesWhole}, Faults.IsOfStoreOr, Reading.Reads};
 ghost use Rattle.office_desk.specs.{Accounts.{IsLengthened, IsSameOrNone}, Causes.{LacksNumbers, LacksSome}};
-ghost use Rattle.office_desk.specs.Reports.{AreLookedUp, IsLookedUp, TellsPartners, TellsNext, TellsPartner, partner_called};
+ghost use Rattle.office_desk.specs.Reports.{AreLookedUp, IsLookedUp, Shows, TellsPartners, TellsNext, TellsPartner, partner_called};
 ghost use Rattle.office_reports.specs.Partners.{partner_content};
 ghost use Rattle.office_replies.specs.AccountAnswers.{account_added_text};
 ghost use Rattle.office_rows.specs.{Effects.with_partner, Rows.Rows, Stored.HasRows};
@@ -13,7 +13,8 @@ use edi_messages::PartnerKind;
 use office_admission::{Account, Setup};
 use office_loading::waiting_numbers;
 use office_replies::{AccountFault, account_added};
-use office_reports::{Partner, partner_report, partners_report};
+use office_report_data::{show_partner, show_partners};
+use office_reports::{Partner, View, partner_row, partners_of};
 use office_tables::{TableFault, next_of, write_account};
 use sqlite::{Alter, Connection};
 use std::alloc::{AllocError, Global};
@@ -83,17 +84,19 @@ pub(crate) fn tell_partners<S: Alter>(
     alloc: Global,
     conn: &mut Connection<S>,
     accounts: &[Account],
+    view: View,
 ) -> Result<String, TableFault>
     requires few { length accounts.now ≤ most_partners }
     ensures told { HasCleanDisk (state S.Store conn.new) → IfOk result (λ text. (rows : Rows) →
         HasRows rows (state S.Store conn.old).now →
-        TellsPartners rows (account_contents accounts.now) (Some (string_bytes text))) }
+        Shows (TellsPartners rows (account_contents accounts.now)) view (Some (string_bytes text))) }
     ensures fault { HasCleanDisk (state S.Store conn.new) → IfErr result (λ fault. (rows : Rows) →
         HasRows rows (state S.Store conn.old).now → IsOfStoreOr (LacksSome rows (length accounts.now)) fault) }
     ensures reads { OnlyReads (state S.Store conn.old) (state S.Store conn.new) result }
 {
     let partners = look_all_up(alloc, conn, accounts)?;
-    Ok(partners_report(alloc, &partners)?)
+    let report = partners_of(alloc, &partners)?;
+    Ok(show_partners(alloc, &report, view)?)
 }
 
 /// The partners with these accounts.
@@ -126,12 +129,13 @@ pub(crate) fn tell_partner<S: Alter>(
     conn: &mut Connection<S>,
     setup: &Setup,
     code: &str,
+    view: View,
 ) -> Result<Option<String>, TableFault>
     requires few { length setup.now.partners.items ≤ most_partners }
     ensures told { HasCleanDisk (state S.Store conn.new) → IfOk result (λ found. (rows : Rows) →
         HasRows rows (state S.Store conn.old).now →
-        TellsPartner rows (setup_content setup.now).partners (partner_called (setup_content setup.now) code.now)
-        (option_map string_bytes found)) }
+        Shows (TellsPartner rows (setup_content setup.now).partners (partner_called (setup_content setup.now) code.now))
+        view (option_map string_bytes found)) }
     ensures fault { HasCleanDisk (state S.Store conn.new) → IfErr result (λ fault. (rows : Rows) →
         HasRows rows (state S.Store conn.old).now →
         IsOfStoreOr (LacksSome rows (length (setup_content setup.now).partners)) fault) }
@@ -141,7 +145,7 @@ pub(crate) fn tell_partner<S: Alter>(
     match setup.partners.index_called(code) {
         Some(index) => {
             let partner = look_up(alloc, conn, index as u16 + 1, &accounts[index])?;
-            Ok(Some(partner_report(alloc, &partner)?))
+            Ok(Some(show_partner(alloc, &partner_row(&partner), view)?))
         }
         None => Ok(None),
     }

@@ -1,9 +1,9 @@
 ghost use Rattle.std.specs.{Option.{option_map, option_and_then}, Prelude.{◌≡◌, None, Some, IfOk, string_bytes, ◌≤◌, ◌⊎◌, IfErr, is_some, length, OnOk}};
 ghost use Rattle.office_tables.specs.{DeliveryReading.OnlyReads, Answers.{HasUnfitReply, LacksNext}, Faults.IsOfStoreOr, Reading.Reads};
 ghost use Rattle.office_desk.specs.{Answers.answer_by_model, Causes.AsksUnreadable, Noting.{Notes, NotesMemory}};
-ghost use Rattle.office_desk.specs.Reports.{TellsOf, TellsReply, reply_text, ticket_if_taken, IsOpenFor};
+ghost use Rattle.office_desk.specs.Reports.{Shows, TellsAbout, TellsOf, TellsReply, answered, contrl_told, ticket_if_taken, IsOpenFor};
+ghost use Rattle.office_report_data.specs.Told.{shown};
 ghost use Rattle.office_history.specs.{After.{AreKeptOnce, reply_in}, Cascade.text_in};
-ghost use Rattle.office_reports.specs.{Contrls.contrl_in, Picture.IsPicture};
 ghost use Rattle.office_replies.specs.Contents.{content_of};
 ghost use Rattle.office_rows.specs.{Rows.Rows, Stored.HasRows};
 ghost use Rattle.office_admission.specs.{Limits.most_partners, Setups.setup_content};
@@ -11,14 +11,16 @@ ghost use Rattle.partner_core.specs.{Answers.{Clash, Repeat, Waiting, answer_by}
 ghost use Rattle.sqlite.specs.{Held.state, State.HasCleanDisk};
 
 use crate::accounts::{tell_next, tell_partner, tell_partners};
-use crate::beside::{tell_health, tell_metrics};
+use crate::beside::{tell_health, tell_metrics, tell_start};
+use crate::in_memory::{
+    tell_block, tell_blocks, tell_calls, tell_container, tell_expected, tell_found, tell_list,
+    tell_picture, tell_visits, tell_work, tell_yard,
+};
 use crate::taking::Delivery;
 use office_admission::Setup;
 use office_replies::{Response, clash_body, taken_body, waiting_body};
-use office_reports::{
-    NotNow, Query, blocks_report, calls_report, container_report, contrl_in, list_report, picture,
-    ticket, visit_report, work_report, yard_csv, yard_report,
-};
+use office_report_data::{show_contrl, show_taken, show_ticket, show_waiting};
+use office_reports::{About, NotNow, Query, View, ticket_of};
 use office_tables::{Kept, TableFault, kept, next_of};
 use partner_core::{Standing, judge};
 use sqlite::{Alter, Connection};
@@ -117,7 +119,6 @@ pub(crate) fn note_memory(last_fault: &mut Option<TableFault>, answer: &Response
 }
 
 /// What the rows report for a query, and the terminal that is kept in memory. It changes nothing.
-#[tactic(auto, using(office_tables::proofs::WriteLemmas::nothing_read, office_tables::proofs::WriteLemmas::one_read))]
 pub fn tell<S: Alter>(
     alloc: Global,
     conn: &mut Connection<S>,
@@ -131,65 +132,93 @@ pub fn tell<S: Alter>(
         HasRows rows (state S.Store conn.old).now → AreKeptOnce rows.interchanges →
         TellsOf (setup_content setup.now) terminal.now rows query.now (option_map string_bytes found)) }
     ensures fault { HasCleanDisk (state S.Store conn.new) → IfErr result (λ fault. (rows : Rows) →
-        HasRows rows (state S.Store conn.old).now → IsOfStoreOr (AsksUnreadable (setup_content setup.now) rows query.now) fault) }
+        HasRows rows (state S.Store conn.old).now →
+        IsOfStoreOr (AsksUnreadable (setup_content setup.now) rows query.now.about) fault) }
     ensures reads { OnlyReads (state S.Store conn.old) (state S.Store conn.new) result }
-    ensures is_open { HasCleanDisk (state S.Store conn.new) → OnOk result (IsOpenFor query.now (state S.Store conn.new)) }
+    ensures is_open { HasCleanDisk (state S.Store conn.new) →
+        OnOk result (IsOpenFor query.now.about (state S.Store conn.new)) }
 {
-    match query {
-        Query::Yard => Ok(Some(yard_report(alloc, terminal)?)),
-        Query::YardTable => Ok(Some(yard_csv(alloc, terminal)?)),
-        Query::Partners => Ok(Some(tell_partners(alloc, conn, setup.partners.as_slice())?)),
-        Query::Partner(code) => tell_partner(alloc, conn, setup, code),
-        Query::Next(code) => tell_next(alloc, conn, setup, code),
-        Query::Blocks => Ok(Some(blocks_report(alloc, terminal)?)),
-        Query::Calls => Ok(Some(calls_report(alloc, terminal)?)),
-        Query::Picture => Ok(Some(tell_picture(alloc, setup, terminal)?)),
-        Query::Visits(container) => Ok(visit_report(alloc, setup, terminal, *container)?),
-        Query::Container(container) => Ok(container_report(alloc, setup, terminal, *container)?),
-        Query::List { call, side } => Ok(list_report(alloc, terminal, call, *side)?),
-        Query::Work { call, side } => Ok(work_report(alloc, terminal, call, *side)?),
-        Query::Ticket { partner, number } => match setup.partner_called(partner) {
-            Some(id) => tell_ticket(alloc, conn, terminal, partner, id, *number),
-            None => Ok(None),
-        },
-        Query::Reply { partner, number } => match setup.partner_called(partner) {
-            Some(id) => tell_reply(alloc, conn, partner, id, *number),
-            None => Ok(None),
-        },
-        Query::Contrl { partner, number } => match setup.partner_called(partner) {
-            Some(id) => tell_contrl(alloc, conn, id, *number),
-            None => Ok(None),
-        },
-        Query::Health => tell_health(alloc, conn),
-        Query::Metrics => tell_metrics(alloc, conn, setup, terminal),
-    }
+    tell_about(alloc, conn, setup, terminal, &query.about, query.view)
 }
 
-/// The picture of the yard, by the terminal's name and its blocks.
-fn tell_picture(alloc: Global, setup: &Setup, terminal: &Terminal) -> Result<String, AllocError>
-    ensures { IfOk result
-        (λ page. IsPicture terminal.now (setup_content setup.now).terminal (setup_content setup.now).blocks
-        (string_bytes page)) }
+/// What is reported of what is asked about, shown so.
+#[tactic(auto, using(office_tables::proofs::WriteLemmas::nothing_read, office_tables::proofs::WriteLemmas::one_read))]
+fn tell_about<S: Alter>(
+    alloc: Global,
+    conn: &mut Connection<S>,
+    setup: &Setup,
+    terminal: &Terminal,
+    about: &About,
+    view: View,
+) -> Result<Option<String>, TableFault>
+    requires few { length setup.now.partners.items ≤ most_partners }
+    requires some { 1 ≤ length setup.now.partners.items }
+    ensures told { HasCleanDisk (state S.Store conn.new) → IfOk result (λ found. (rows : Rows) →
+        HasRows rows (state S.Store conn.old).now → AreKeptOnce rows.interchanges →
+        Shows (TellsAbout (setup_content setup.now) terminal.now rows about.now) view (option_map string_bytes found)) }
+    ensures fault { HasCleanDisk (state S.Store conn.new) → IfErr result (λ fault. (rows : Rows) →
+        HasRows rows (state S.Store conn.old).now →
+        IsOfStoreOr (AsksUnreadable (setup_content setup.now) rows about.now) fault) }
+    ensures reads { OnlyReads (state S.Store conn.old) (state S.Store conn.new) result }
+    ensures is_open { HasCleanDisk (state S.Store conn.new) →
+        OnOk result (IsOpenFor about.now (state S.Store conn.new)) }
 {
-    picture(alloc, setup.terminal.as_str(), &setup.blocks, terminal)
+    match about {
+        About::Yard => Ok(Some(tell_yard(alloc, terminal, view)?)),
+        About::Partners => {
+            Ok(Some(tell_partners(alloc, conn, setup.partners.as_slice(), view)?))
+        }
+        About::Partner(code) => tell_partner(alloc, conn, setup, code, view),
+        About::Next(code) => tell_next(alloc, conn, setup, code),
+        About::Blocks => Ok(Some(tell_blocks(alloc, terminal, view)?)),
+        About::Calls => Ok(Some(tell_calls(alloc, terminal, view)?)),
+        About::Picture => Ok(Some(tell_picture(alloc, setup, terminal, view)?)),
+        About::Visits(container) => Ok(tell_visits(alloc, setup, terminal, *container, view)?),
+        About::Container(container) => {
+            Ok(tell_container(alloc, setup, terminal, *container, view)?)
+        }
+        About::List { call, side } => Ok(tell_list(alloc, terminal, call, *side, view)?),
+        About::Work { call, side } => Ok(tell_work(alloc, terminal, call, *side, view)?),
+        About::Ticket { partner, number } => match setup.partner_called(partner) {
+            Some(id) => tell_ticket(alloc, conn, terminal, partner, id, *number, view),
+            None => Ok(None),
+        },
+        About::Reply { partner, number } => match setup.partner_called(partner) {
+            Some(id) => tell_reply(alloc, conn, partner, id, *number, view),
+            None => Ok(None),
+        },
+        About::Contrl { partner, number } => match setup.partner_called(partner) {
+            Some(id) => tell_contrl(alloc, conn, partner, id, *number, view),
+            None => Ok(None),
+        },
+        About::Health => tell_health(alloc, conn),
+        About::Metrics => tell_metrics(alloc, conn, setup, terminal),
+        About::Start => tell_start(alloc, conn, setup, terminal),
+        About::Expected(container) => Ok(Some(tell_expected(alloc, terminal, *container)?)),
+        About::Block(letter) => Ok(Some(tell_block(alloc, terminal, *letter)?)),
+        About::Find(typed) => Ok(Some(tell_found(alloc, setup, terminal, typed)?)),
+    }
 }
 
 /// The CONTRL that an interchange was answered, if it was taken.
 fn tell_contrl<S: Alter>(
     alloc: Global,
     conn: &mut Connection<S>,
+    code: &str,
     partner: u16,
     number: u32,
+    view: View,
 ) -> Result<Option<String>, TableFault>
     ensures told { HasCleanDisk (state S.Store conn.new) → IfOk result (λ found. (rows : Rows) →
         HasRows rows (state S.Store conn.old).now → AreKeptOnce rows.interchanges →
-        option_map string_bytes found ≡ option_and_then contrl_in (reply_in rows partner number)) }
+        option_map string_bytes found
+        ≡ option_map (shown view) (contrl_told code.now number (reply_in rows partner number))) }
     ensures fault { HasCleanDisk (state S.Store conn.new) → IfErr result (λ fault. (rows : Rows) →
         HasRows rows (state S.Store conn.old).now → IsOfStoreOr (HasUnfitReply partner number rows) fault) }
     ensures reads { Reads (state S.Store conn.old) (state S.Store conn.new) result }
 {
     match reply_of(kept(conn, partner, number)?) {
-        Some(reply) => Ok(contrl_in(alloc, reply.as_str())?),
+        Some(reply) => Ok(show_contrl(alloc, code, number, reply.as_str(), view)?),
         None => Ok(None),
     }
 }
@@ -211,17 +240,19 @@ fn tell_ticket<S: Alter>(
     code: &str,
     partner: u16,
     number: u32,
+    view: View,
 ) -> Result<Option<String>, TableFault>
     ensures told { HasCleanDisk (state S.Store conn.new) → IfOk result (λ found. (rows : Rows) →
         HasRows rows (state S.Store conn.old).now → AreKeptOnce rows.interchanges →
-        option_map string_bytes found
-        ≡ ticket_if_taken terminal.now.visits code.now partner number (reply_in rows partner number)) }
+        option_map string_bytes found ≡ option_map (shown view)
+        (ticket_if_taken terminal.now.visits code.now partner number (reply_in rows partner number))) }
     ensures fault { HasCleanDisk (state S.Store conn.new) → IfErr result (λ fault. (rows : Rows) →
         HasRows rows (state S.Store conn.old).now → IsOfStoreOr (HasUnfitReply partner number rows) fault) }
     ensures reads { Reads (state S.Store conn.old) (state S.Store conn.new) result }
 {
     if was_taken(kept(conn, partner, number)?) {
-        return Ok(Some(ticket(alloc, terminal, code, partner, number)?));
+        let report = ticket_of(alloc, terminal, code, partner, number)?;
+        return Ok(Some(show_ticket(alloc, &report, view)?));
     }
     Ok(None)
 }
@@ -243,11 +274,12 @@ fn tell_reply<S: Alter>(
     code: &str,
     partner: u16,
     number: u32,
+    view: View,
 ) -> Result<Option<String>, TableFault>
     ensures told { HasCleanDisk (state S.Store conn.new) → IfOk result (λ found. (rows : Rows) →
         HasRows rows (state S.Store conn.old).now → AreKeptOnce rows.interchanges →
-        TellsReply rows code.now partner number (text_in rows partner number) (reply_in rows partner number)
-        (option_map string_bytes found)) }
+        Shows (TellsReply rows code.now partner number (text_in rows partner number) (reply_in rows partner number))
+        view (option_map string_bytes found)) }
     ensures fault { HasCleanDisk (state S.Store conn.new) → IfErr result (λ fault. (rows : Rows) →
         HasRows rows (state S.Store conn.old).now → IsOfStoreOr (HasUnfitReply partner number rows ⊎ LacksNext partner rows) fault) }
     ensures reads { Reads (state S.Store conn.old) (state S.Store conn.new) result }
@@ -255,26 +287,27 @@ fn tell_reply<S: Alter>(
     match kept(conn, partner, number)? {
         Some(kept) => {
             let next = next_of(conn, partner)?;
-            Ok(Some(tell_kept(alloc, kept, next, code, number)?))
+            Ok(Some(tell_kept(alloc, kept, next, code, number, view)?))
         }
         None => Ok(None),
     }
 }
 
-/// The answer to an interchange that is kept: as a repeat, if it was taken.
+/// The answer to an interchange that is kept: with its reply, if it was taken, or with the number that is next.
 fn tell_kept(
     alloc: Global,
     kept: Kept,
     next: u32,
     code: &str,
     number: u32,
+    view: View,
 ) -> Result<String, AllocError>
-    ensures { IfOk result
-        (λ text. string_bytes text ≡ reply_text next code.now number (option_map string_bytes kept.reply)) }
+    ensures { IfOk result (λ text. string_bytes text
+        ≡ shown view (answered code.now number next (option_map string_bytes kept.reply))) }
 {
     let Kept { text: _, reply } = kept;
     match reply {
-        Some(reply) => taken_body(alloc, "repeat", number, code, &reply),
-        None => waiting_body(alloc, next, number, code),
+        Some(reply) => show_taken(alloc, code, number, &reply, view),
+        None => show_waiting(alloc, code, number, next, view),
     }
 }

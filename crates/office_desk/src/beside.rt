@@ -1,8 +1,10 @@
-ghost use Rattle.std.specs.Prelude.{◌≡◌, ◌≤◌, ◌-◌, length, slice_set, Some, IfOk, IfErr, option_map, string_bytes};
+ghost use Rattle.std.specs.Prelude.{◌≡◌, ◌≤◌, ◌-◌, length, slice_set, Some, IfOk, IfErr, map, option_map, string_bytes};
 ghost use Rattle.office_loading.specs.{Closed.closed_content, Tables.LoadsOwn};
 ghost use Rattle.office_tables.specs.{DeliveryReading.OnlyReads, Answers.LacksNext, Faults.{IsOfStore, IsOfStoreOr}, Reading.Reads};
-ghost use Rattle.office_desk.specs.{Causes.LacksSome, Finding.StaysBeside, Offices.{FailsToOpen, HoldsOffice}, Reports.TellsMetrics};
-ghost use Rattle.office_reports.specs.Metrics.{ready_text};
+ghost use Rattle.office_desk.specs.{Causes.LacksSome, Finding.StaysBeside, Offices.{FailsToOpen, HoldsOffice}};
+ghost use Rattle.office_desk.specs.Reports.{Shows, TellsMetrics, TellsStart, start_by};
+ghost use Rattle.office_pages.specs.Start.{office_page};
+ghost use Rattle.office_reports.specs.{Blocks.{AreBlocks, BlocksContent}, Partners.partner_content, Metrics.ready_text, declared.query.View.View};
 ghost use Rattle.office_rows.specs.{Rows.Rows, Shown.AreNexts, Stored.HasRows, Tables.office_schema};
 ghost use Rattle.office_admission.specs.{Given.IsGiven, Limits.most_partners, Setups.{SetupContent, setup_content}};
 ghost use Rattle.partner_core.specs.Numbered.{with_number};
@@ -12,11 +14,14 @@ ghost use Rattle.terminal_core.specs.State.{TerminalState};
 use crate::accounts::look_all_up;
 use office_admission::Setup;
 use office_loading::{Closed, load_own, nexts};
-use office_reports::{Versions, metrics_report, program_version, ready};
+use office_pages::{StartReport, office_page};
+use office_reports::{
+    Partner, Versions, blocks_of, calls_of, metrics_report, partners_of, program_version, ready,
+};
 use office_tables::{TableFault, next_of};
 use sqlite::{Alter, Connection};
-use std::alloc::Global;
-use terminal_core::Terminal;
+use std::alloc::{AllocError, Global};
+use terminal_core::{Terminal, newest_number};
 
 /// What is kept in memory beside the tables, so that a delivery reads no more of them than the interchanges that it
 /// needs.
@@ -139,4 +144,46 @@ pub(crate) fn tell_metrics<S: Alter>(
     };
     let partners = look_all_up(alloc, conn, setup.partners.as_slice())?;
     Ok(Some(metrics_report(alloc, versions, terminal, setup.visit_limit, &partners)?))
+}
+
+/// The start page. It changes nothing.
+pub(crate) fn tell_start<S: Alter>(
+    alloc: Global,
+    conn: &mut Connection<S>,
+    setup: &Setup,
+    terminal: &Terminal,
+) -> Result<Option<String>, TableFault>
+    requires few { length setup.now.partners.items ≤ most_partners }
+    ensures told { HasCleanDisk (state S.Store conn.new) → IfOk result (λ found. (rows : Rows) →
+        HasRows rows (state S.Store conn.old).now → (view : View) →
+        Shows (TellsStart (setup_content setup.now) terminal.now rows) view (option_map string_bytes found)) }
+    ensures fault { HasCleanDisk (state S.Store conn.new) → IfErr result (λ fault. (rows : Rows) →
+        HasRows rows (state S.Store conn.old).now →
+        IsOfStoreOr (LacksSome rows (length (setup_content setup.now).partners)) fault) }
+    ensures reads { OnlyReads (state S.Store conn.old) (state S.Store conn.new) result }
+{
+    let partners = look_all_up(alloc, conn, setup.partners.as_slice())?;
+    Ok(Some(start_of(alloc, setup, terminal, &partners)?))
+}
+
+fn start_of(
+    alloc: Global,
+    setup: &Setup,
+    terminal: &Terminal,
+    partners: &[Partner],
+) -> Result<String, AllocError>
+    ensures { IfOk result (λ page. (blocks : BlocksContent) × AreBlocks terminal.now blocks
+        × (string_bytes page ≡ office_page (setup_content setup.now).terminal
+        (start_by (setup_content setup.now) terminal.now (map partner_content partners.now) blocks))) }
+{
+    let visits = terminal.visits();
+    let report = StartReport {
+        visits: visits.len(),
+        visits_ever: newest_number(visits),
+        limit: setup.visit_limit,
+        partners: partners_of(alloc, partners)?,
+        calls: calls_of(alloc, terminal)?,
+        blocks: blocks_of(alloc, terminal)?,
+    };
+    office_page(alloc, setup.terminal.as_str(), &report)
 }

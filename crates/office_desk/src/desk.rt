@@ -110,13 +110,6 @@ impl<S: Alter> Desk<S> {
         &self.setup
     }
 
-    /// The terminal's name.
-    pub fn terminal(&self) -> &str
-        ensures { result.now ≡ string_bytes self.now.setup.terminal }
-    {
-        self.setup.terminal.as_str()
-    }
-
     /// The connection to its tables.
     pub fn into_connection(self) -> Connection<S>
         ensures { result ≡ self.conn }
@@ -194,10 +187,10 @@ impl<S: Alter + Drop> Desk<S> {
             IfOk result (λ found. DeskTells S.Store self.old query.now (option_map string_bytes found)) }
         ensures fault { IsSound S.Store self.new → IfErr result (λ fault. (rows : Rows) (terminal : TerminalState) →
             DeskHolds S.Store self.old rows terminal →
-            IsOfStoreOr (AsksUnfitReply (setup_content self.old.setup) rows query.now) fault) }
+            IsOfStoreOr (AsksUnfitReply (setup_content self.old.setup) rows query.now.about) fault) }
         ensures looks { OnlyLooks S.Store self.old self.new }
         ensures is_open { HasCleanDisk (state S.Store self.new.conn) →
-            OnOk result (IsOpenFor query.now (state S.Store self.new.conn)) }
+            OnOk result (IsOpenFor query.now.about (state S.Store self.new.conn)) }
         ensures stays_open { HasCleanDisk (state S.Store self.new.conn) → IsTrue (state S.Store self.old.conn).is_open →
             OnOk result (IsTrue (state S.Store self.new.conn).is_open) }
         ensures last_fault { self.new.last_fault ≡ self.old.last_fault }

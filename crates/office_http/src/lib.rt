@@ -23,6 +23,6 @@ mod wanted;
 
 pub use gate::Gate;
 pub use seen::Seen;
-pub use serve::{OfTerminal, ServeFault, Watch, serve_one};
+pub use serve::{ServeFault, Watch, serve_one};
 pub use server::serve_on;
 pub use site::Site;

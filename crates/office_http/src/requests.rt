@@ -1,24 +1,25 @@
 ghost use Rattle.std.specs.{Option.{ok_or, option_and_then}, Vec.vec_capacity};
-ghost use Rattle.std.specs.Prelude.{◌≡◌, ◌⊎◌, ◌≤◌, ◌+◌, ◌-◌, ◌++◌, length, take, drop, map, IfOk, IfSome, IsTrue, ◌↔◌, Ok, vec_len};
+ghost use Rattle.std.specs.Prelude.{◌≡◌, ◌⊎◌, ◌≤◌, ◌+◌, ◌-◌, ◌++◌, length, take, drop, map, IfOk, IfSome, IsTrue, ◌↔◌, Ok, vec_len, string_bytes};
 ghost use Rattle.edi_syntax.specs.Interchange.{most_bytes};
 ghost use Rattle.httparse.specs.{Grammar.RequestHead, Spans.{header_bytes, IsRequestAt, IsRequestWithin, IsSectionWithin}};
 ghost use Rattle.office_http.specs.{Deciding.{body_size, EndsWhenDecided, wanted_bytes_after}, Fields.body_length, Heads.most_request_reads, Ports.ReadsUpTo};
-ghost use Rattle.office_http.specs.Requests.{Asks, AsksWith, asked_in, Gets, IsUnheld, Names, nothing_in, Posts, PostsAccount, PostsBy, PostsExplain, refused_in, sought, texts_asked};
-ghost use Rattle.office_http.specs.{Routes.{key_in, partner_key_in}, declared.targets.View.TheVariants.Find, declared.requests.Request.TheVariants.Refused};
+ghost use Rattle.office_http.specs.Requests.{Asks, AsksWith, as_page, asked_in, found_by, Gets, IsUnheld, Names, nothing_in, Posts, PostsAccount, PostsBy, PostsExplain, refused_in, sought, texts_asked, view_asked};
+ghost use Rattle.office_http.specs.{Routes.{key_in, partner_key_in}, declared.targets.Showing.TheVariants.Find, declared.requests.Request.TheVariants.Refused};
 ghost use Rattle.office_http.specs.declared.response.Refusal.TheVariants.{NotNow};
-ghost use Rattle.office_pages.specs.{Typed.typed, declared.notices.Notice.TheVariants.NotHere};
-ghost use Rattle.office_reports.specs.{AccountKeys.{account_in, sender_in}, Keys.query_of};
+ghost use Rattle.office_pages.specs.{Typed.{typed, typed_words}, declared.notices.Notice.TheVariants.NotHere};
+ghost use Rattle.office_reports.specs.{AccountKeys.{account_in, sender_in}, Keys.{container, find, query_content, query_of}};
 
 use crate::head::{FoundHead, MOST_FIELDS, MOST_HEAD_BYTES, OwnText, content_length, read_head};
 use crate::response::Refusal;
 use crate::routes::{Endpoint, explained, key_in, partner_key_in, passed_in, posted_as};
 use crate::site::Site;
-use crate::targets::{View, path_of, typed_in, view_of};
+use crate::targets::{Showing, path_of, showing_of, typed_in};
+use box6346::BoxNumber;
 use httparse::spans::{EMPTY_HEADER_SPAN, HeaderSpan};
-use office_pages::{Notice, typed_number};
+use office_pages::{Notice, typed_number, typed_words};
 use office_replies::Port;
 use office_reports::{
-    AccountKey, Query, ReportKind, read_account_key, read_query, read_sender_key,
+    About, AccountKey, Query, ReportKind, View, read_account_key, read_query, read_sender_key,
 };
 use std::alloc::Global;
 use std::cmp::min;
@@ -37,7 +38,7 @@ pub(crate) enum Request {
     /// What is wrong with this text.
     Explain(Vec<u8>),
     /// A report, shown so.
-    Report(View, ReportKind, Query),
+    Report(Showing, ReportKind, Query),
     /// A page of the kept texts, and how many come before it.
     Texts(u32),
     /// A page that says why there is no report.
@@ -97,29 +98,29 @@ pub(crate) fn read_asked<R: Read>(
         }
         Ok(Endpoint::Accounts) => read_account(alloc, reader, read, headers, found, path),
         Ok(Endpoint::Explain) => read_explained(alloc, reader, read, headers, found),
-        Ok(Endpoint::Report(kind)) => Ok(read_report(alloc, view_of(target), kind, target)),
+        Ok(Endpoint::Report(kind)) => Ok(read_report(alloc, showing_of(target), kind, target)),
         Ok(Endpoint::Texts) => Ok(texts_asked(passed_in(path))),
-        Err(refusal) => Ok(refused_in(view_of(target), refusal)),
+        Err(refusal) => Ok(refused_in(showing_of(target), refusal)),
     }
 }
 
-/// A refusal in a view.
-fn refused_in(view: View, refusal: Refusal) -> Request
-    ensures { result ≡ refused_in view refusal }
+/// A refusal as it is shown.
+fn refused_in(showing: Showing, refusal: Refusal) -> Request
+    ensures { result ≡ refused_in showing refusal }
 {
     match refusal {
-        Refusal::NotFound => nothing_in(view, Notice::NotHere),
+        Refusal::NotFound => nothing_in(showing, Notice::NotHere),
         _ => Request::Refused(refusal),
     }
 }
 
 /// Where there is nothing a text is refused, and a page says why.
-fn nothing_in(view: View, notice: Notice) -> Request
-    ensures { result ≡ nothing_in view notice }
+fn nothing_in(showing: Showing, notice: Notice) -> Request
+    ensures { result ≡ nothing_in showing notice }
 {
-    match view {
-        View::Text | View::Archive(_) => Request::Refused(Refusal::NotFound),
-        View::Page | View::Find | View::Start => Request::Noticed(notice),
+    match showing {
+        Showing::Plain(_) | Showing::Archive(_, _) => Request::Refused(Refusal::NotFound),
+        Showing::Page | Showing::Find | Showing::Start => Request::Noticed(notice),
     }
 }
 
@@ -259,40 +260,83 @@ fn texts_asked(from: Option<u32>) -> Request
 }
 
 /// The report that a target asks for.
-fn read_report(alloc: Global, view: View, kind: ReportKind, target: &str) -> Request
-    ensures { (result ≡ Refused NotNow) ⊎ Gets view kind (asked_in view kind target.now) result }
+fn read_report(alloc: Global, showing: Showing, kind: ReportKind, target: &str) -> Request
+    ensures { (result ≡ Refused NotNow) ⊎ Gets showing kind (asked_in showing kind target.now) result }
 {
-    match view {
-        View::Find => read_typed(alloc, kind, typed_in(target)),
-        View::Text | View::Page | View::Start | View::Archive(_) => {
-            read_key(alloc, view, kind, path_of(target))
+    match showing {
+        Showing::Find => read_typed(alloc, kind, typed_in(target)),
+        Showing::Plain(_) | Showing::Page | Showing::Start | Showing::Archive(_, _) => {
+            read_key(alloc, showing, kind, path_of(target))
         }
     }
 }
 
 /// The report of the container whose number was typed.
 fn read_typed(alloc: Global, kind: ReportKind, value: &str) -> Request
-    ensures { (result ≡ Refused NotNow) ⊎ Gets Find kind (sought (typed value.now)) result }
+    ensures { (result ≡ Refused NotNow) ⊎ Gets Find kind (sought value.now (typed value.now)) result }
 {
     match typed_number(alloc, value.as_bytes()) {
-        Ok(Ok(number)) => Request::Report(View::Find, kind, Query::Container(number)),
+        Ok(Ok(number)) => Request::Report(Showing::Find, kind, container_asked(number)),
+        Ok(Err(Notice::Form)) => read_found(alloc, kind, value),
         Ok(Err(notice)) => Request::Noticed(notice),
         Err(_) => Request::Refused(Refusal::NotNow),
     }
 }
 
+/// The query of where a container is, as a page.
+fn container_asked(number: BoxNumber) -> Query
+    ensures { query_content result ≡ as_page (container number) }
+{
+    Query {
+        about: About::Container(number),
+        view: View::Page,
+    }
+}
+
+/// What another text finds, if it is one.
+fn read_found(alloc: Global, kind: ReportKind, value: &str) -> Request
+    ensures { (result ≡ Refused NotNow) ⊎ Gets Find kind (found_by (typed_words value.now)) result }
+{
+    match typed_words(alloc, value.as_bytes()) {
+        Ok(Some(words)) => Request::Report(Showing::Find, kind, words_asked(words)),
+        Ok(None) => Request::Noticed(Notice::Form),
+        Err(_) => Request::Refused(Refusal::NotNow),
+    }
+}
+
+/// The query of what a text finds, as a page.
+fn words_asked(words: String) -> Query
+    ensures { query_content result ≡ as_page (find (string_bytes words)) }
+{
+    Query {
+        about: About::Find(words),
+        view: View::Page,
+    }
+}
+
 /// The report whose key stands in a path.
-fn read_key(alloc: Global, view: View, kind: ReportKind, path: &str) -> Request
+fn read_key(alloc: Global, showing: Showing, kind: ReportKind, path: &str) -> Request
     ensures { (result ≡ Refused NotNow)
-        ⊎ Gets view kind (ok_or (option_and_then (query_of kind) (key_in kind path.now)) NotHere) result }
+        ⊎ Gets showing kind (ok_or (option_and_then (query_of kind (view_asked showing)) (key_in kind path.now)) NotHere) result }
 {
     let Some(key) = key_in(kind, path) else {
-        return nothing_in(view, Notice::NotHere);
+        return nothing_in(showing, Notice::NotHere);
     };
-    match read_query(alloc, kind, key) {
-        Ok(Some(query)) => Request::Report(view, kind, query),
-        Ok(None) => nothing_in(view, Notice::NotHere),
+    match read_query(alloc, kind, view_asked(showing), key) {
+        Ok(Some(query)) => Request::Report(showing, kind, query),
+        Ok(None) => nothing_in(showing, Notice::NotHere),
         Err(_) => Request::Refused(Refusal::NotNow),
+    }
+}
+
+/// As what a report is asked for.
+fn view_asked(showing: Showing) -> View
+    ensures { result ≡ view_asked showing }
+{
+    match showing {
+        Showing::Plain(view) => view,
+        Showing::Archive(_, view) => view,
+        Showing::Page | Showing::Find | Showing::Start => View::Page,
     }
 }
 

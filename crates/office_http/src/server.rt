@@ -6,7 +6,7 @@ use crate::line::Ready;
 use crate::lines::Lines;
 use crate::overheard::Overheard;
 use crate::seen::Seen;
-use crate::serve::{OfTerminal, ServeFault, Watch, serve_one};
+use crate::serve::{ServeFault, Watch, serve_one};
 use crate::site::Site;
 use crate::told::{Outlet, Telling};
 use office_replies::{AddAccount, Port};
@@ -21,7 +21,7 @@ use std::time::Instant;
 /// request isn't whole within ten, or which doesn't take its response within ten. By the path of a partner a number may be
 /// above its next one by `ahead`, or by any where there is no bound. What watches gets each connection as soon as it
 /// is answered. In the end nothing is listened at.
-pub fn serve_on<C: Clock, D: Report + AddAccount + OfTerminal, H: Watch>(
+pub fn serve_on<C: Clock, D: Report + AddAccount, H: Watch>(
     alloc: Global,
     clock: &C,
     mut gate: Gate,
@@ -45,7 +45,7 @@ pub fn serve_on<C: Clock, D: Report + AddAccount + OfTerminal, H: Watch>(
 }
 
 /// Waits for the next connection that can be served, and answers its request.
-fn serve_next<C: Clock, D: Report + AddAccount + OfTerminal, H: Watch>(
+fn serve_next<C: Clock, D: Report + AddAccount, H: Watch>(
     alloc: Global,
     clock: &C,
     gate: &mut Gate,
@@ -67,7 +67,7 @@ fn serve_next<C: Clock, D: Report + AddAccount + OfTerminal, H: Watch>(
 
 /// Answers the one request of a connection, which can't be served again: what is left of it is its response. None: nothing
 /// is left. What was asked on it is done, or nothing is, if it was given up.
-fn serve_line<C: Clock, D: Report + AddAccount + OfTerminal, H: Watch>(
+fn serve_line<C: Clock, D: Report + AddAccount, H: Watch>(
     alloc: Global,
     clock: &C,
     lines: &mut Lines,
@@ -80,7 +80,7 @@ fn serve_line<C: Clock, D: Report + AddAccount + OfTerminal, H: Watch>(
     ensures steps { AtMost D.leads D.enrols D.looks (calls_of 1) desk.old desk.new }
     ensures noted { (seen : Seen) × H.notes watch.old seen watch.new }
     ensures serves { (desk.new ≡ desk.old)
-        ⊎ Serves D.leads D.enrols D.looks D.terminal_name site.now ahead ready.asked.items desk.old desk.new (λ _. Unit {0}) }
+        ⊎ Serves D.leads D.enrols D.looks site.now ahead ready.asked.items desk.old desk.new (λ _. Unit {0}) }
 {
     let mut asked = Overheard::new(ready.inlet());
     let mut told = Overheard::new(Outlet::new(alloc, &ready, lines));

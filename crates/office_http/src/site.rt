@@ -2,7 +2,7 @@
 ghost use Rattle.std.specs.{Prelude.{◌≡◌, ◌++◌, IfOk, All, false, length, map, codes, string_bytes, option_map}, Str.str_eq_ignore_ascii_case};
 ghost use Rattle.httparse.specs.Spans.{header_bytes, IsHeaderWithin};
 ghost use Rattle.office_explain.specs.{Blocks.IsExplanation, declared.partners.Partners.Partners};
-ghost use Rattle.office_pages.specs.{Pages.notice_bytes, declared.notices.Notice.TheVariants.{NotHere, Form}};
+ghost use Rattle.office_pages.specs.{Notices.notice_bytes, declared.notices.Notice.TheVariants.{NotHere, Form}};
 ghost use Rattle.office_http.specs.{Fields.values_of, Routes.endpoint_of};
 ghost use Rattle.office_http.specs.Sites.{after, are_three_octets, are_two_octets, before, fetch_passes, host_passes, is_end, is_loopback, is_loopback_6, is_named, is_octet, is_own, is_own_host, is_port, is_site_of, is_site_of_one, origin_passes, site_passes, stranger, unless_stranger};
 
@@ -34,7 +34,7 @@ impl Model for Site {
     ghost use Rattle.std.specs.Prelude.{◌≡◌, ℕ, List, Option, option_map, string_bytes};
     ghost use Rattle.std.specs.Prelude.{false};
     ghost use Rattle.office_http.specs.Routes.{endpoints};
-    ghost use Rattle.office_pages.specs.Pages.{notice_bytes};
+    ghost use Rattle.office_pages.specs.Notices.{notice_bytes};
     ghost use Rattle.office_pages.specs.declared.notices.Notice.TheVariants.{NotHere, Form};
 
     ghost Value = { Option (List ℕ) };

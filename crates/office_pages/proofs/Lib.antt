@@ -1,3 +1,9 @@
-pub mod Shown
+mod Decoding
+mod Ends
+mod Growing
+pub mod Plain
+pub mod Sides
 mod Splitting
-mod Titled
+pub mod Sums
+mod Texts
+pub mod Values

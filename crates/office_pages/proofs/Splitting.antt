@@ -4,7 +4,6 @@ use Rattle.std.proofs.lemmas.Bool.{ne_eqb, cases_Bool}
 use Rattle.std.proofs.Common.{◌≡◌, ◌≢◌, ℕ, ◌<◌, ◌==◌, false, List, [], ◌∷◌, ◌++◌, length, get_or, inl, inr, refl, sym, ap, ◌∙◌, append_assoc, eq-eqb, true, ◌&&◌, Err, if◌then◌else◌}
 use Rattle.std.proofs.{lemmas.List.append-nil, lemmas.List.Elements.All-from_get_or}
 use Rattle.std.proofs.lemmas.List.Splits.{slice_split_none, slice_split_at, slice_split-cons_yes, slice_split-cons_no}
-use Rattle.office_pages.specs.{Pages.count_view, Words.lines}
 use Rattle.box6346.specs.ContainerNumber.{number_of}
 use Rattle.box6346.specs.NumberText.{has_form}
 use Rattle.box6346.specs.declared.box_number.NumberFault.TheVariants as fault
@@ -71,21 +70,6 @@ module _ (c : ℕ) (f : List ℕ → List ℕ) (between : List ℕ) where
   pub pieces_end : (text front page now : List ℕ) → HasNone c text → page ++ by_pieces text ≡ front →
       now ≡ page ++ f text → now ≡ front
   pieces_end text front page now none before shown = shown ∙ ap (λ t. page ++ t) (sym (by_one_piece text none)) ∙ before
-
--- ---- the counts
-
-pub counts_more : (text first others front page now : List ℕ) → text ≡ first ++ 10 ∷ others → HasNone 10 first →
-    page ++ flat_map count_view (lines text) ≡ front → now ≡ page ++ count_view first →
-    now ++ flat_map count_view (lines others) ≡ front
-counts_more text first others front page now is none before shown =
-    ap (λ t. t ++ flat_map count_view (lines others)) shown
-    ∙ append_assoc page (count_view first) (flat_map count_view (lines others))
-    ∙ ap (λ ls. page ++ flat_map count_view ls) (sym (first_piece 10 text first others is none)) ∙ before
-
-pub counts_end : (text front page now : List ℕ) → HasNone 10 text → page ++ flat_map count_view (lines text) ≡ front →
-    now ≡ page ++ count_view text → now ≡ front
-counts_end text front page now none before shown =
-    shown ∙ ap (λ t. page ++ t) (sym (append-nil (count_view text)) ∙ ap (λ ls. flat_map count_view ls) (sym (one_piece 10 text none))) ∙ before
 
 -- ==== Typing: Numbers with another check digit.
 

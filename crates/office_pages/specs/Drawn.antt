@@ -1,8 +1,9 @@
 -- The picture of the yard, with a link from each container to its page (our own).
-use Rattle.std.specs.{Prelude.{ℕ, ◌==◌, Bool, List, ◌++◌, codes, nat_eq, Option, None, Some, if◌then◌else◌}, List.{join_by, slice_split, starts_with}}
+use Rattle.std.specs.{Prelude.{ℕ, ◌==◌, Bool, List, ◌++◌, codes, is_ok, nat_eq, Option, None, Some, if◌then◌else◌}, List.{join_by, slice_split, starts_with}}
 use Rattle.std.specs.Str.{bytes_eq}
+use Rattle.box6346.specs.ContainerNumber.{number_of as box_of}
 use Rattle.office_reports.specs.Fields.{field_text}
-use Rattle.office_pages.specs.{Links.container_link, Words.{lines, word_at, words}}
+use Rattle.office_pages.specs.{Addresses.container_address, Words.{lines, word_at, words}}
 
 -- a container has a line of the picture: <g transform='translate(X -Y)'><title>BOX SIZE FULL SLOT</title>..
 abbrev pub draws_container : List ℕ → Bool
@@ -15,6 +16,10 @@ tag_ends line = slice_split (λ b. b == 62) line
 -- the first word after the second `>`
 abbrev pub titled : List ℕ → List ℕ
 titled line = word_at (words (word_at (tag_ends line) 2)) 0
+
+-- a container number, check digit and all
+abbrev pub container_link : List ℕ → Option (List ℕ)
+container_link word = if is_ok (box_of word) then Some (container_address word) else None
 
 abbrev pub drawn_link : List ℕ → Option (List ℕ)
 drawn_link line = if draws_container line then container_link (titled line) else None

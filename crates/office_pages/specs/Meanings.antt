@@ -1,6 +1,5 @@
 -- What the names in a reply mean (our own).
-use Rattle.std.specs.{Prelude.{ℕ, Bool, ◌||◌, List, [], ◌∷◌, ◌++◌, codes, nat_eq, if◌then◌else◌}, List.{flat_map, starts_with}}
-use Rattle.office_reports.specs.Fields.{field_text}
+use Rattle.std.specs.{Prelude.{ℕ, List, [], ◌∷◌, codes, if◌then◌else◌}, Str.bytes_eq}
 use Rattle.office_pages.specs.declared.meanings.Meaning.{Meaning}
 
 -- ---- the names, and the sentences of docs/PROFILE.md without their marks
@@ -52,34 +51,7 @@ reasons =
     ∷ means (codes "VisitLimit") (codes "as many visits were recorded as the set-up allows")
     ∷ []
 
--- ---- which of them a reply has
-
--- a part stands in a text, at its front or further on
-abbrev pub stands_in : List ℕ → List ℕ → Bool
-stands_in part [] = starts_with nat_eq [] part
-stands_in part (c ∷ text) = starts_with nat_eq (c ∷ text) part || stands_in part text
-
--- a member of a reply with that name as its value
-abbrev pub mark : List ℕ → List ℕ → List ℕ
-mark member name = codes "\"" ++ member ++ codes "\":\"" ++ name ++ codes "\""
-
--- ---- how they are reported
-
-abbrev pub meaning_entry : Meant → List ℕ
-meaning_entry what = codes "<dt>" ++ field_text what.name ++ codes "</dt>\n<dd>" ++ field_text what.sentence ++ codes "</dd>\n"
-
--- a name is reported if the reply gives it in that member
-abbrev pub meaning_view : List ℕ → List ℕ → Meant → List ℕ
-meaning_view member text what = if stands_in (mark member what.name) text then meaning_entry what else []
-
-abbrev pub meaning_entries : List ℕ → List ℕ
-meaning_entries text =
-    flat_map (meaning_view (codes "fault") text) message_faults ++ flat_map (meaning_view (codes "reason") text) reasons
-
--- entries between their tags; nothing without an entry
-abbrev pub framed : List ℕ → List ℕ → List ℕ → List ℕ
-framed front [] back = []
-framed front (c ∷ entries) back = front ++ (c ∷ entries) ++ back
-
-abbrev pub meanings_view : List ℕ → List ℕ
-meanings_view text = framed (codes "<h2>What the names mean</h2>\n<dl>\n") (meaning_entries text) (codes "</dl>\n")
+-- what a name means
+abbrev pub meaning_of : List Meant → List ℕ → List ℕ
+meaning_of [] name = []
+meaning_of (meant ∷ others) name = if bytes_eq meant.name name then meant.sentence else meaning_of others name

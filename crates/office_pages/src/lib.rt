@@ -1,15 +1,52 @@
-//! Pages of HTML that show the texts of reports.
+//! Pages of HTML, made of what reports tell.
 #![tactic(auto)]
 
-mod body;
+mod archives;
+mod blocks;
+mod calls;
+mod container;
+mod contrl;
+mod drawn;
+mod fields;
+mod found;
+mod frame;
 pub mod laws;
 mod layout;
-mod links;
+mod lists;
+mod marks;
 mod meanings;
 mod notices;
-mod pages;
-mod related;
+mod partner;
+mod partners;
+mod pieces;
+mod reply;
+mod reply_lines;
+mod reply_values;
+mod start;
+mod style;
+mod tables;
+mod tickets;
+mod visits;
+mod wanted;
+mod work;
+mod work_rows;
+mod yard;
 
-pub use notices::{Notice, notice_page, typed_number};
-pub use pages::{has_page, page, start_page};
-pub use related::second_of;
+pub use archives::with_archives;
+pub use blocks::blocks_page;
+pub use calls::calls_page;
+pub use container::container_page;
+pub use contrl::contrl_page;
+pub use drawn::picture_page;
+pub use found::found_page;
+pub use lists::list_page;
+pub use notices::{Notice, notice_page, typed_number, typed_words};
+pub use partner::partner_page;
+pub use partners::partners_page;
+pub use reply::{reply_page, waiting_page};
+pub use start::{StartReport, office_page};
+pub use tickets::ticket_page;
+pub use visits::visits_page;
+pub use wanted::expected_page;
+pub use work::work_page;
+pub use yard::yard_page;

@@ -1,9 +1,6 @@
 //! What the names in a reply mean.
-ghost use Rattle.std.specs.{List.flat_map, Prelude.{◌≡◌, ◌++◌, IfOk, OnOk, map, string_bytes}};
-ghost use Rattle.office_pages.specs.Meanings.{framed, mark, meaning_entry, meaning_view, meanings_view, meant, message_faults, reasons, stands_in};
-
-use crate::body::push_text;
-use std::alloc::{AllocError, Global};
+ghost use Rattle.std.specs.Prelude.{◌≡◌, map};
+ghost use Rattle.office_pages.specs.Meanings.{meaning_of, meant, message_faults, reasons};
 
 /// The name of a reason or a fault, and what it means.
 #[derive(Clone, Copy)]
@@ -79,113 +76,28 @@ const REASONS: [Meaning; 18] = [
     ),
 ];
 
-/// Appends what each name means that a reply has.
-pub(crate) fn push_meanings(alloc: Global, page: &mut String, text: &str) -> Result<(), AllocError>
-    ensures { OnOk result (string_bytes page.new ≡ string_bytes page.old ++ meanings_view text.now) }
+/// The sentence of a name, empty if it has none.
+pub(crate) fn meaning_of(meanings: &'static [Meaning], name: &str) -> &'static str
+    ensures { result.now ≡ meaning_of (map meant meanings.now) name.now }
 {
-    let mut entries = String::new(alloc);
-    push_meant(alloc, &mut entries, text, "fault", message_faults())?;
-    push_meant(alloc, &mut entries, text, "reason", reasons())?;
-    push_framed(
-        page,
-        "<h2>What the names mean</h2>\n<dl>\n",
-        entries.as_str(),
-        "</dl>\n",
-    )
+    for meaning in meanings {
+        if meaning.0 == name {
+            return meaning.1;
+        }
+    }
+    ""
 }
 
 #[tactic(auto, unfolding(crate::specs::Meanings::message_faults))]
-fn message_faults() -> &'static [Meaning]
+pub(crate) fn message_faults() -> &'static [Meaning]
     ensures { map meant result.now ≡ message_faults }
 {
     &MESSAGE_FAULTS
 }
 
 #[tactic(auto, unfolding(crate::specs::Meanings::reasons))]
-fn reasons() -> &'static [Meaning]
+pub(crate) fn reasons() -> &'static [Meaning]
     ensures { map meant result.now ≡ reasons }
 {
     &REASONS
-}
-
-/// Appends what those of these names mean that the reply gives in that member.
-fn push_meant(
-    alloc: Global,
-    entries: &mut String,
-    text: &str,
-    member: &str,
-    meanings: &[Meaning],
-) -> Result<(), AllocError>
-    ensures { OnOk result (string_bytes entries.new
-        ≡ string_bytes entries.old ++ flat_map (meaning_view member.now text.now) (map meant meanings.now)) }
-{
-    for meaning in meanings {
-        push_meaning(alloc, entries, text, member, meaning)?;
-    }
-    Ok(())
-}
-
-fn push_meaning(
-    alloc: Global,
-    entries: &mut String,
-    text: &str,
-    member: &str,
-    meaning: &Meaning,
-) -> Result<(), AllocError>
-    ensures { OnOk result (string_bytes entries.new
-        ≡ string_bytes entries.old ++ meaning_view member.now text.now (meant meaning.now)) }
-{
-    let mark = mark(alloc, member, meaning.0)?;
-    if stands_in(mark.as_str(), text) {
-        push_entry(alloc, entries, meaning)
-    } else {
-        Ok(())
-    }
-}
-
-/// A member of a reply with that name as its value.
-fn mark(alloc: Global, member: &str, name: &str) -> Result<String, AllocError>
-    ensures { IfOk result (λ text. string_bytes text ≡ mark member.now name.now) }
-{
-    let mut text = String::new(alloc);
-    text.push_str("\"")?;
-    text.push_str(member)?;
-    text.push_str("\":\"")?;
-    text.push_str(name)?;
-    text.push_str("\"")?;
-    Ok(text)
-}
-
-fn stands_in(part: &str, text: &str) -> bool
-    ensures { result ≡ stands_in part.now text.now }
-{
-    text.contains(part)
-}
-
-fn push_entry(alloc: Global, entries: &mut String, meaning: &Meaning) -> Result<(), AllocError>
-    ensures { OnOk result
-        (string_bytes entries.new ≡ string_bytes entries.old ++ meaning_entry (meant meaning.now)) }
-{
-    entries.push_str("<dt>")?;
-    push_text(alloc, entries, meaning.0)?;
-    entries.push_str("</dt>\n<dd>")?;
-    push_text(alloc, entries, meaning.1)?;
-    entries.push_str("</dd>\n")
-}
-
-/// Appends entries between their tags; nothing without an entry.
-pub(crate) fn push_framed(
-    page: &mut String,
-    front: &str,
-    entries: &str,
-    back: &str,
-) -> Result<(), AllocError>
-    ensures { OnOk result (string_bytes page.new ≡ string_bytes page.old ++ framed front.now entries.now back.now) }
-{
-    if entries.is_empty() {
-        return Ok(());
-    }
-    page.push_str(front)?;
-    page.push_str(entries)?;
-    page.push_str(back)
 }

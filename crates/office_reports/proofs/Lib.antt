@@ -5,3 +5,6 @@ pub mod CallLemmas
 pub mod Waits
 pub mod Markup
 mod Pages
+pub mod ReplyLemmas
+pub mod InterchangeLemmas
+pub mod LastLemmas

@@ -1,40 +1,53 @@
 -- The keys by which reports are asked for.
-use Rattle.std.specs.Prelude.{ℕ, ◌==◌, nat_le, List, [], ◌∷◌, length, codes, slice_index, Option, None, Some, option_map, string_bytes, Result, Ok, Err, if◌then◌else◌}
-use Rattle.std.specs.{Option.option_and_then, List.slice_split, Str.bytes_eq}
+use Rattle.std.specs.Prelude.{ℕ, ◌==◌, ◌&&◌, nat_le, List, [], ◌∷◌, length, codes, slice_index, Option, None, Some, option_map, string_bytes, Result, Ok, Err, if◌then◌else◌}
+use Rattle.std.specs.{Char.is_ascii_uppercase, Option.option_and_then, List.slice_split, Str.bytes_eq}
 use Rattle.box6346.specs.{ContainerNumber.number_of as box_of, declared.box_number.BoxNumber.BoxNumber, declared.box_number.NumberFault.NumberFault}
 use Rattle.edi_messages.specs.{Texts.is_name, declared.call.Call.Call}
 use Rattle.edi_syntax.specs.{Bytes.digit_zero, Numbers.{number_of, as_control_number, last_number}}
 use Rattle.terminal_core.specs.{declared.lines.Side.Side, declared.lines.Side.TheVariants.{Load, Discharge}}
-use Rattle.office_reports.specs.{Escapes.decoded_part, declared.query.Query.Query, declared.query.ReportKind.ReportKind}
-use Rattle.office_reports.specs.declared.query.Query.TheVariants as query
+use Rattle.office_reports.specs.{Escapes.decoded_part, AskedViews.has_view, declared.query.About.About, declared.query.Query.Query, declared.query.View.View}
+use Rattle.office_reports.specs.declared.query.ReportKind.{ReportKind}
+use Rattle.office_reports.specs.declared.query.About.TheVariants as about
 use Rattle.office_reports.specs.declared.query.ReportKind.TheVariants as kind
 
--- what is asked for, with its texts as bytes
-pub data QueryContent : Type 0 where
-  yard yard_table partners blocks calls picture health metrics : QueryContent
-  visits container : BoxNumber → QueryContent
-  list work : List ℕ → List ℕ → Side → QueryContent
-  ticket reply contrl : List ℕ → ℕ → QueryContent
-  one_partner next_number : List ℕ → QueryContent
+-- what is asked about, with its texts as bytes
+pub data AboutContent : Type 0 where
+  yard partners blocks calls picture health metrics start : AboutContent
+  visits container expected : BoxNumber → AboutContent
+  block : ℕ → AboutContent
+  list work : List ℕ → List ℕ → Side → AboutContent
+  ticket reply contrl : List ℕ → ℕ → AboutContent
+  one_partner next_number find : List ℕ → AboutContent
+
+abbrev pub about_content : About → AboutContent
+about_content about.Yard = yard
+about_content (about.Visits number) = visits number
+about_content (about.List call side) = list (string_bytes call.vessel) (string_bytes call.voyage) side
+about_content (about.Ticket partner number) = ticket (string_bytes partner) number
+about_content (about.Reply partner number) = reply (string_bytes partner) number
+about_content (about.Container number) = container number
+about_content (about.Work call side) = work (string_bytes call.vessel) (string_bytes call.voyage) side
+about_content about.Partners = partners
+about_content about.Blocks = blocks
+about_content about.Calls = calls
+about_content (about.Contrl partner number) = contrl (string_bytes partner) number
+about_content about.Picture = picture
+about_content (about.Partner code) = one_partner (string_bytes code)
+about_content (about.Next code) = next_number (string_bytes code)
+about_content about.Health = health
+about_content about.Metrics = metrics
+about_content about.Start = start
+about_content (about.Find typed) = find (string_bytes typed)
+about_content (about.Expected number) = expected number
+about_content (about.Block letter) = block letter
+
+-- what is asked for: about what, and as what it is shown
+pub record QueryContent : Type 0 where
+  pub about : AboutContent
+  pub view : View
 
 abbrev pub query_content : Query → QueryContent
-query_content query.Yard = yard
-query_content query.YardTable = yard_table
-query_content (query.Visits number) = visits number
-query_content (query.List call side) = list (string_bytes call.vessel) (string_bytes call.voyage) side
-query_content (query.Ticket partner number) = ticket (string_bytes partner) number
-query_content (query.Reply partner number) = reply (string_bytes partner) number
-query_content (query.Container number) = container number
-query_content (query.Work call side) = work (string_bytes call.vessel) (string_bytes call.voyage) side
-query_content query.Partners = partners
-query_content query.Blocks = blocks
-query_content query.Calls = calls
-query_content (query.Contrl partner number) = contrl (string_bytes partner) number
-query_content query.Picture = picture
-query_content (query.Partner code) = one_partner (string_bytes code)
-query_content (query.Next code) = next_number (string_bytes code)
-query_content query.Health = health
-query_content query.Metrics = metrics
+query_content query = record { about = about_content query.about; view = query.view }
 
 -- the list that a call and a side name
 abbrev pub list_named : Call × Side → List ℕ × List ℕ × Side
@@ -108,7 +121,7 @@ passed_of digits =
 -- ---- what a key asks for
 
 -- the empty key
-abbrev pub if_empty : List ℕ → QueryContent → Option QueryContent
+abbrev pub if_empty : List ℕ → AboutContent → Option AboutContent
 if_empty key what = if length key == 0 then Some what else None
 
 -- BOX
@@ -136,21 +149,32 @@ interchange_in p = option_and_then (λ partner. option_map (λ number. (partner,
 abbrev pub interchange_of : List ℕ → Option (List ℕ × ℕ)
 interchange_of key = option_and_then interchange_in (two_parts (key_parts key))
 
--- what a key asks for of that kind, if it can be read and something can be found under it
-abbrev pub query_of : ReportKind → List ℕ → Option QueryContent
-query_of kind.Yard key = if_empty key yard
-query_of kind.YardTable key = if_empty key yard_table
-query_of kind.Visits key = option_map visits (container_of key)
-query_of kind.List key = option_map (λ of. list of.0 of.1 of.2) (list_of key)
-query_of kind.Ticket key = option_map (λ of. ticket of.0 of.1) (interchange_of key)
-query_of kind.Reply key = option_map (λ of. reply of.0 of.1) (interchange_of key)
-query_of kind.Container key = option_map container (container_of key)
-query_of kind.Work key = option_map (λ of. work of.0 of.1 of.2) (list_of key)
-query_of kind.Partners key = if_empty key partners
-query_of kind.Blocks key = if_empty key blocks
-query_of kind.Calls key = if_empty key calls
-query_of kind.Contrl key = option_map (λ of. contrl of.0 of.1) (interchange_of key)
-query_of kind.Picture key = if_empty key picture
-query_of kind.Partner key = option_map one_partner (partner_of key)
-query_of kind.Health key = if_empty key health
-query_of kind.Metrics key = if_empty key metrics
+-- LETTER
+abbrev pub letter_of : List ℕ → Option ℕ
+letter_of [] = None
+letter_of (letter ∷ more) = if length more == 0 && is_ascii_uppercase letter then Some letter else None
+
+-- what a key asks about of that kind, if it can be read and something can be found under it
+abbrev pub about_of : ReportKind → List ℕ → Option AboutContent
+about_of kind.Yard key = if_empty key yard
+about_of kind.Visits key = option_map visits (container_of key)
+about_of kind.List key = option_map (λ of. list of.0 of.1 of.2) (list_of key)
+about_of kind.Ticket key = option_map (λ of. ticket of.0 of.1) (interchange_of key)
+about_of kind.Reply key = option_map (λ of. reply of.0 of.1) (interchange_of key)
+about_of kind.Container key = option_map container (container_of key)
+about_of kind.Work key = option_map (λ of. work of.0 of.1 of.2) (list_of key)
+about_of kind.Partners key = if_empty key partners
+about_of kind.Blocks key = if_empty key blocks
+about_of kind.Calls key = if_empty key calls
+about_of kind.Contrl key = option_map (λ of. contrl of.0 of.1) (interchange_of key)
+about_of kind.Picture key = if_empty key picture
+about_of kind.Partner key = option_map one_partner (partner_of key)
+about_of kind.Health key = if_empty key health
+about_of kind.Metrics key = if_empty key metrics
+about_of kind.Start key = if_empty key start
+about_of kind.Block key = option_map block (letter_of key)
+
+-- what a key asks for of that kind, if it is shown so
+abbrev pub query_of : ReportKind → View → List ℕ → Option QueryContent
+query_of asked view key =
+    if has_view asked view then option_map (λ what. record { about = what; view = view }) (about_of asked key) else None

@@ -3,15 +3,11 @@ use Rattle.std.specs.Prelude.{◌≡◌, ℕ, List, Option}
 use Rattle.box6346.specs.{SlotName.{IsNamed, slot_text}, declared.slot.Slot.Slot}
 use Rattle.edi_messages.specs.Purposes.{CallContent}
 use Rattle.terminal_core.specs.{declared.lines.Side.Side, State.TerminalState}
-use Rattle.office_reports.specs.{Names.slot_name, Yard.IsYardReport, Export.IsYardExport, Lists.IsListReport}
+use Rattle.office_reports.specs.{Names.slot_name, Yard.IsYardReport, Lists.IsListReport}
 
 -- two reports on one yard are one text
 abbrev pub YardReportsAreOne : Type 0
 YardReportsAreOne = (state : TerminalState) (one other : List ℕ) → IsYardReport state one → IsYardReport state other →
-    one ≡ other
-
-abbrev pub YardExportsAreOne : Type 0
-YardExportsAreOne = (state : TerminalState) (one other : List ℕ) → IsYardExport state one → IsYardExport state other →
     one ≡ other
 
 -- two reports on one list are one answer

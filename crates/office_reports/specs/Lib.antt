@@ -1,4 +1,3 @@
-pub mod Export
 pub mod Laws
 pub mod Listed
 pub mod Lists
@@ -7,6 +6,7 @@ pub mod Tickets
 pub mod Visits
 pub mod Yard
 pub mod Escapes
+pub mod AskedViews
 pub mod Keys
 pub mod AccountKeys
 pub mod Looking
@@ -27,3 +27,7 @@ pub mod PictureLaws
 pub mod Markup
 pub mod Picture
 pub mod Views
+pub mod Interchanges
+pub mod InterchangeLines
+pub mod ReplyValues
+pub mod Last

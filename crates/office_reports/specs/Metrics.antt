@@ -1,7 +1,7 @@
 -- What watches over the office is told: whether it can be asked, and how much there is of what (our own), in the format
 -- that Prometheus reads (text, version 0.0.4).
 use Rattle.std.specs.{Prelude.{ℕ, Bool, true, false, List, [], ◌∷◌, ◌++◌, length, count_by, sum_by, codes, decimal, is_none}, List.flat_map}
-use Rattle.terminal_core.specs.{Rows.VisitContent, State.TerminalState}
+use Rattle.terminal_core.specs.{Rows.VisitContent, State.{TerminalState, last_number}}
 use Rattle.office_reports.specs.{Names.line, Partners.{PartnerContent, waiting_count}, declared.metrics.Gauge.Gauge}
 
 -- ---- whether it can be asked
@@ -32,12 +32,14 @@ pub record GaugeContent : Type 0 where
 abbrev pub gauge : List ℕ → List ℕ → ℕ → GaugeContent
 gauge name help value = record { name = name; help = help; value = value }
 
--- accounts, containers, visits and their limit, interchanges that wait, and for how many partners
+-- Accounts, containers, visits, how many there ever were and their limit, interchanges that wait, and for how many partners.
+-- Visits are numbered from 1 on, and the limit is one of their numbers: so it is reached by those that were put away too.
 abbrev pub gauges : TerminalState → (visit_limit : ℕ) → List PartnerContent → List GaugeContent
 gauges state visit_limit partners =
     gauge (codes "office_accounts") (codes "Partners that have an account.") (length partners)
     ∷ gauge (codes "office_containers") (codes "Containers in the yard.") (count_by is_here state.visits)
     ∷ gauge (codes "office_visits") (codes "Visits recorded, open and closed.") (length state.visits)
+    ∷ gauge (codes "office_visits_ever") (codes "Visits recorded, put away ones too.") (last_number state.visits)
     ∷ gauge (codes "office_visits_limit") (codes "Visits that may be recorded.") visit_limit
     ∷ gauge (codes "office_interchanges_waiting") (codes "Interchanges that wait for a number that is missing.")
     (sum_by waiting_count partners)

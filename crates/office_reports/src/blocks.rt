@@ -173,7 +173,7 @@ fn higher(tier: u8, other: u8) -> u8
 
 /// How many twenties a block holds.
 #[tactic(auto, unfolding(crate::specs::Blocks::cell_count))]
-fn cell_count(block: Block) -> u32
+pub fn cell_count(block: Block) -> u32
     ensures value { result ≡ cell_count block }
     ensures few { result < 2 ^ 24 }
 {

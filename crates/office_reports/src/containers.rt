@@ -137,6 +137,18 @@ fn departure_of<'a>(setup: &'a Setup, departure: &Option<Departure>) -> Option<P
     }
 }
 
+/// The open lines that name a container, by vessel, voyage and side.
+pub fn open_lines_of<'a>(
+    alloc: Global,
+    terminal: &'a Terminal,
+    container: BoxNumber,
+) -> Result<Vec<&'a Listing>, AllocError>
+    ensures { IfOk result
+        (λ lines. map (λ line. line_entry line.now) lines.items ≡ open_lines terminal.now.lines container) }
+{
+    open_lines(alloc, terminal.lines(), container)
+}
+
 /// The open lines that name a container, in the order of their keys.
 fn open_lines<'a>(
     alloc: Global,

@@ -2,64 +2,95 @@ ghost use Rattle.std.specs.Prelude.{◌≡◌, ◌==◌, IfOk, option_map, strin
 ghost use Rattle.edi_syntax.specs.{Bytes.digit_zero, Numbers.number_of};
 ghost use Rattle.edi_messages.specs.Texts.{is_name};
 ghost use Rattle.office_reports.specs.{AccountKeys.{account_in, account_named, part_bytes, sender_in}, Escapes.{byte_of, decoded_part, with_first_byte}};
-ghost use Rattle.office_reports.specs.Keys.{query_content, container_of, if_empty, interchange_of, list_named, list_of, partner_of, query_of, box_in, control_number_of, name_in, name_of, number_in, passed_of, side_in, side_of, one_part, key_parts, three_parts, two_parts};
+ghost use Rattle.office_reports.specs.Keys.{about_content, about_of, query_content, container_of, if_empty, interchange_of, list_named, list_of, partner_of, query_of, box_in, control_number_of, name_in, name_of, number_in, passed_of, side_in, side_of, letter_of, one_part, key_parts, three_parts, two_parts};
 
-use crate::query::{Query, ReportKind};
+use crate::query::{About, Query, ReportKind, View, has_view};
 use box6346::BoxNumber;
 use edi_messages::Call;
 use edi_syntax::{LAST_NUMBER, are_printable};
 use std::alloc::{AllocError, Global};
 use terminal_core::Side;
 
-/// What a key asks for: the empty key for the yard, its table, its picture, its blocks, the calls, the partners, health
+/// What a key asks for, to be shown so: the empty key for the yard, its picture, its blocks, the calls, the partners, health
 /// and metrics, `BOX` for a container and for its visits, `VESSEL/VOYAGE/SIDE` for a list and for what is left of it,
 /// `PARTNER/NUMBER` for a ticket, for a reply and for a CONTRL, and `PARTNER` for a partner. In each part `%` and two
-/// hexadecimal digits write a byte. None: the key can't be read, or nothing can be found under it.
-pub fn read_query(alloc: Global, kind: ReportKind, key: &str) -> Result<Option<Query>, AllocError>
-    ensures { IfOk result (λ query. option_map query_content query ≡ query_of kind key.now) }
+/// hexadecimal digits write a byte. None: it is not shown so, the key can't be read, or nothing can be found under it.
+pub fn read_query(
+    alloc: Global,
+    kind: ReportKind,
+    view: View,
+    key: &str,
+) -> Result<Option<Query>, AllocError>
+    ensures { IfOk result (λ query. option_map query_content query ≡ query_of kind view key.now) }
+{
+    if !has_view(kind, view) {
+        return Ok(None);
+    }
+    match read_about(alloc, kind, key)? {
+        Some(about) => Ok(Some(Query { about, view })),
+        None => Ok(None),
+    }
+}
+
+/// What a key asks about.
+fn read_about(alloc: Global, kind: ReportKind, key: &str) -> Result<Option<About>, AllocError>
+    ensures { IfOk result (λ about. option_map about_content about ≡ about_of kind key.now) }
 {
     match kind {
-        ReportKind::Yard => Ok(if_empty(key, Query::Yard)),
-        ReportKind::YardTable => Ok(if_empty(key, Query::YardTable)),
-        ReportKind::Partners => Ok(if_empty(key, Query::Partners)),
-        ReportKind::Blocks => Ok(if_empty(key, Query::Blocks)),
-        ReportKind::Calls => Ok(if_empty(key, Query::Calls)),
-        ReportKind::Picture => Ok(if_empty(key, Query::Picture)),
-        ReportKind::Health => Ok(if_empty(key, Query::Health)),
-        ReportKind::Metrics => Ok(if_empty(key, Query::Metrics)),
-        ReportKind::Visits => Ok(read_container(alloc, key)?.map(|number| Query::Visits(number))),
+        ReportKind::Yard => Ok(if_empty(key, About::Yard)),
+        ReportKind::Partners => Ok(if_empty(key, About::Partners)),
+        ReportKind::Blocks => Ok(if_empty(key, About::Blocks)),
+        ReportKind::Calls => Ok(if_empty(key, About::Calls)),
+        ReportKind::Picture => Ok(if_empty(key, About::Picture)),
+        ReportKind::Health => Ok(if_empty(key, About::Health)),
+        ReportKind::Metrics => Ok(if_empty(key, About::Metrics)),
+        ReportKind::Start => Ok(if_empty(key, About::Start)),
+        ReportKind::Block => Ok(letter_of(key.as_bytes()).map(|letter| About::Block(letter))),
+        ReportKind::Visits => Ok(read_container(alloc, key)?.map(|number| About::Visits(number))),
         ReportKind::Container => {
-            Ok(read_container(alloc, key)?.map(|number| Query::Container(number)))
+            Ok(read_container(alloc, key)?.map(|number| About::Container(number)))
         }
         ReportKind::List => {
-            Ok(read_list(alloc, key)?.map(|(call, side)| Query::List { call, side }))
+            Ok(read_list(alloc, key)?.map(|(call, side)| About::List { call, side }))
         }
         ReportKind::Work => {
-            Ok(read_list(alloc, key)?.map(|(call, side)| Query::Work { call, side }))
+            Ok(read_list(alloc, key)?.map(|(call, side)| About::Work { call, side }))
         }
         ReportKind::Ticket => match read_interchange(alloc, key)? {
-            Some((partner, number)) => Ok(Some(Query::Ticket { partner, number })),
+            Some((partner, number)) => Ok(Some(About::Ticket { partner, number })),
             None => Ok(None),
         },
         ReportKind::Reply => match read_interchange(alloc, key)? {
-            Some((partner, number)) => Ok(Some(Query::Reply { partner, number })),
+            Some((partner, number)) => Ok(Some(About::Reply { partner, number })),
             None => Ok(None),
         },
         ReportKind::Contrl => match read_interchange(alloc, key)? {
-            Some((partner, number)) => Ok(Some(Query::Contrl { partner, number })),
+            Some((partner, number)) => Ok(Some(About::Contrl { partner, number })),
             None => Ok(None),
         },
         ReportKind::Partner => match read_partner(alloc, key)? {
-            Some(partner) => Ok(Some(Query::Partner(partner))),
+            Some(partner) => Ok(Some(About::Partner(partner))),
             None => Ok(None),
         },
     }
 }
 
-fn if_empty(key: &str, query: Query) -> Option<Query>
-    ensures { option_map query_content result ≡ if_empty key.now (query_content query) }
+/// The letter of a block.
+fn letter_of(key: &[u8]) -> Option<u8>
+    ensures { result ≡ letter_of key.now }
 {
-    if key.is_empty() { Some(query) } else { None }
+    let (letter, more) = key.split_first()?;
+    if more.is_empty() && letter.is_ascii_uppercase() {
+        Some(*letter)
+    } else {
+        None
+    }
+}
+
+fn if_empty(key: &str, about: About) -> Option<About>
+    ensures { option_map about_content result ≡ if_empty key.now (about_content about) }
+{
+    if key.is_empty() { Some(about) } else { None }
 }
 
 /// The container that a key names.

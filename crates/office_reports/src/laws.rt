@@ -1,13 +1,12 @@
 //! Laws of the definitions. Each function has an empty body, and its contract is the law: a call brings it into
 //! the caller's proof.
-ghost use Rattle.office_reports.specs.Laws.{YardReportsAreOne, YardExportsAreOne, ListReportsAreOne, NamesAreWritten};
+ghost use Rattle.office_reports.specs.Laws.{YardReportsAreOne, ListReportsAreOne, NamesAreWritten};
 ghost use Rattle.office_reports.specs.LookupLaws.{BlocksReportsAreOne, PartnersReportsAreOne, TicketTextsStay, VisitTextsStay, WorkReportsAreOne};
 ghost use Rattle.office_reports.specs.PictureLaws.{FieldsAreShown, FieldsBringNoMarkup, FieldsStayInPlace, PicturesAreOne};
 
-/// A state has one report on its yard, one export, and one report on each list.
+/// A state has one report on its yard, and one on each list.
 pub fn reports_are_one()
     ensures yard { YardReportsAreOne }
-    ensures export { YardExportsAreOne }
     ensures list { ListReportsAreOne }
 {}
 

@@ -1,4 +1,4 @@
-//! The texts of the office's reports: the yard, its export, a container's visits, a vessel's lists and a partner's
+//! The texts of the office's reports: the yard, a container's visits, a vessel's lists and a partner's
 //! tickets.
 //!
 //! What can be asked of the office besides deliveries, and the keys by which it is asked, accounts that are to be
@@ -19,13 +19,18 @@ mod drawing;
 mod drawn_containers;
 mod fixed;
 mod grids;
+mod interchange_lines;
+mod interchanges;
 mod keys;
+mod last;
+mod last_lines;
 pub mod laws;
 mod lists;
 mod metrics;
 mod partners;
 mod passages;
 mod query;
+pub mod replies;
 pub mod texts;
 mod tickets;
 mod visits;
@@ -33,13 +38,21 @@ mod work;
 mod work_lines;
 pub mod yard;
 
-pub use blocks::{BlockRow, BlockUse, BlocksReport, blocks_of, blocks_report, blocks_text};
+pub use blocks::{
+    BlockRow, BlockUse, BlocksReport, blocks_of, blocks_report, blocks_text, cell_count,
+};
 pub use calls::{CallsReport, ListCount, ListKey, calls_of, calls_report, calls_text};
 pub use container_lines::{container_report, container_text};
-pub use containers::{ContainerReport, Stay, container_of};
+pub use containers::{ContainerReport, Stay, container_of, open_lines_of};
 pub use drawing::picture;
 pub use fixed::field_text;
+pub use interchange_lines::{interchange_text, kind_name, line_fault_name};
+pub use interchanges::{
+    InterchangeReport, LineFacts, LineOutcome, MessageRow, facts_of, interchange_of, messages_of,
+};
 pub use keys::{AccountKey, number_of, passed_of, read_account_key, read_query, read_sender_key};
+pub use last::{Arrival, LastReport, LastRow, Settled, last_of};
+pub use last_lines::last_text;
 pub use lists::{ListReport, ListedLine, lines_on, list_name, list_of, list_report, list_text};
 pub use metrics::{Versions, metrics_report, ready};
 pub use partners::{
@@ -47,9 +60,9 @@ pub use partners::{
     partner_text, partners_of, partners_report, partners_text,
 };
 pub use passages::{Passage, passage_of};
-pub use query::{NotNow, Query, Report, ReportKind, program_version};
+pub use query::{About, NotNow, Query, Report, ReportKind, View, has_view, program_version};
 pub use tickets::{TicketReport, ticket, ticket_of, ticket_text};
 pub use visits::{VisitsReport, visit_report, visits_of, visits_text};
 pub use work::{Job, WorkReport, in_order, work_of};
 pub use work_lines::{work_report, work_text};
-pub use yard::{Standing, standings as yard_standings, yard_csv, yard_report, yard_text};
+pub use yard::{Standing, standings as yard_standings, yard_report, yard_text};

@@ -7,7 +7,7 @@ ghost use Rattle.terminal_core.specs.Rows.{visit_content};
 use crate::partners::{Partner, waiting_count};
 use crate::texts::push_line;
 use std::alloc::{AllocError, Global};
-use terminal_core::{Terminal, Visit};
+use terminal_core::{Terminal, Visit, newest_number};
 
 /// That the office can be asked: compact JSON.
 pub fn ready(alloc: Global) -> Result<String, AllocError>
@@ -16,9 +16,9 @@ pub fn ready(alloc: Global) -> Result<String, AllocError>
     String::from_str(alloc, "{\"answer\":\"ready\"}")
 }
 
-/// How much there is of what, in the text format of Prometheus: accounts, containers in the yard, visits and how many
-/// there may be, interchanges that wait, and of how many partners; and the versions. Each value has a line of help, one of
-/// its type and one of its own, and each line ends with LF.
+/// How much there is of what, in the text format of Prometheus: accounts, containers in the yard, visits, how many there
+/// ever were and how many there may be, interchanges that wait, and of how many partners; and the versions. Each value has
+/// a line of help, one of its type and one of its own, and each line ends with LF.
 pub fn metrics_report(
     alloc: Global,
     versions: Versions<'_>,
@@ -45,6 +45,12 @@ pub fn metrics_report(
             name: "office_visits",
             help: "Visits recorded, open and closed.",
             value: visits.len() as u128,
+        },
+        Gauge {
+            // They are numbered from 1 without a gap, and the newest is never put away.
+            name: "office_visits_ever",
+            help: "Visits recorded, put away ones too.",
+            value: u128::from(newest_number(visits)),
         },
         Gauge {
             name: "office_visits_limit",

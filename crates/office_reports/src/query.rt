@@ -1,5 +1,6 @@
 ghost use Rattle.std.specs.{Option.option_map, Prelude.{ℕ, List, Option, Result, string_bytes, ◌≡◌}, Result.result_map_both};
-ghost use Rattle.office_reports.specs.{Looking.{Look, of_archive, report, texts_after}, Program.program_version, declared.query.NotNow.NotNow};
+ghost use Rattle.office_reports.specs.{AskedViews.{has_csv, has_json, has_page, has_text, has_view}, Looking.{Look, of_archive, report, texts_after}};
+ghost use Rattle.office_reports.specs.{Program.program_version, declared.query.NotNow.NotNow};
 
 use box6346::BoxNumber;
 use edi_messages::Call;
@@ -7,13 +8,33 @@ use office_replies::Deliver;
 use std::alloc::Global;
 use terminal_core::Side;
 
-/// What is asked for: a report and the key of what it is about.
+/// What is asked for: what a report is about, and how it is shown.
 #[derive(Drop)]
-pub enum Query {
+pub struct Query {
+    /// What is asked about.
+    pub about: About,
+    /// As what it is shown.
+    pub view: View,
+}
+
+/// As what a report is shown.
+#[derive(Clone, Copy, PartialEq, Eq, Debug)]
+pub enum View {
+    /// Lines for people.
+    Text,
+    /// An object for programs.
+    Json,
+    /// Comma-separated values, a record for each row.
+    Csv,
+    /// A page of HTML.
+    Page,
+}
+
+/// What a report is about: its kind, and the key.
+#[derive(Drop)]
+pub enum About {
     /// The containers in the yard.
     Yard,
-    /// The yard as comma-separated values.
-    YardTable,
     /// The visits of a container.
     Visits(BoxNumber),
     /// The list of a call on one side.
@@ -69,6 +90,14 @@ pub enum Query {
     Health,
     /// How much there is of what, as gauges.
     Metrics,
+    /// What the start page tells: what needs attention, how much there is of what, calls with open lines, the blocks.
+    Start,
+    /// What a text finds that a person typed: a container by the end of its number or its booking, a partner, a call.
+    Find(String),
+    /// The open lines that name a container, which need not have come.
+    Expected(BoxNumber),
+    /// The containers in a block of the yard.
+    Block(u8),
 }
 
 /// What a report is about.
@@ -76,8 +105,6 @@ pub enum Query {
 pub enum ReportKind {
     /// The containers in the yard.
     Yard,
-    /// The yard as comma-separated values.
-    YardTable,
     /// The visits of a container.
     Visits,
     /// A list of a vessel's voyage.
@@ -106,6 +133,70 @@ pub enum ReportKind {
     Health,
     /// How much there is of what, as gauges.
     Metrics,
+    /// The containers in a block of the yard, as a page only.
+    Block,
+    /// What the start page tells, as a page only.
+    Start,
+}
+
+/// Whether reports of a kind are shown so: as text all but a block and the start page; as JSON these but pictures, CONTRLs,
+/// health and metrics; as CSV those that are lists; as a page all but health and metrics.
+pub fn has_view(kind: ReportKind, view: View) -> bool
+    ensures { result ≡ has_view kind view }
+{
+    match view {
+        View::Text => has_text(kind),
+        View::Json => has_json(kind),
+        View::Csv => has_csv(kind),
+        View::Page => has_page(kind),
+    }
+}
+
+fn has_text(kind: ReportKind) -> bool
+    ensures { result ≡ has_text kind }
+{
+    match kind {
+        ReportKind::Block | ReportKind::Start => false,
+        _ => true,
+    }
+}
+
+fn has_page(kind: ReportKind) -> bool
+    ensures { result ≡ has_page kind }
+{
+    match kind {
+        ReportKind::Health | ReportKind::Metrics => false,
+        _ => true,
+    }
+}
+
+fn has_json(kind: ReportKind) -> bool
+    ensures { result ≡ has_json kind }
+{
+    match kind {
+        ReportKind::Contrl
+        | ReportKind::Picture
+        | ReportKind::Health
+        | ReportKind::Metrics
+        | ReportKind::Block
+        | ReportKind::Start => false,
+        _ => true,
+    }
+}
+
+fn has_csv(kind: ReportKind) -> bool
+    ensures { result ≡ has_csv kind }
+{
+    match kind {
+        ReportKind::Yard
+        | ReportKind::Visits
+        | ReportKind::List
+        | ReportKind::Work
+        | ReportKind::Partners
+        | ReportKind::Blocks
+        | ReportKind::Calls => true,
+        _ => false,
+    }
 }
 
 /// What reports and kept texts are asked of, besides what is delivered to it.
@@ -113,7 +204,7 @@ pub trait Report: Deliver {
     /// What looking does: from what this was, by what was looked at and what came of it, to what it is.
     ghost looks: { Self → Look → Result (Option (List ℕ)) NotNow → Self → Type 0 };
 
-    /// The report, if there is something to report.
+    /// The report as it is to be shown, if there is something to report.
     fn report(&mut self, alloc: Global, query: &Query) -> Result<Option<String>, NotNow>
         ensures { looks self.old (report query.now)
             (result_map_both (option_map string_bytes) (λ refusal. refusal) result) self.new };

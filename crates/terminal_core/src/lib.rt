@@ -13,4 +13,4 @@ pub use change::{Change, LAST_PARTNER, Outcome, Place, Reason, Source, Version};
 pub use lines::{LineState, Listing, Side};
 pub use restoring::RestoreFault;
 pub use terminal::Terminal;
-pub use visits::{Arrival, Departure, Visit, Way};
+pub use visits::{Arrival, Departure, Visit, Way, newest_number};

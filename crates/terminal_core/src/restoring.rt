@@ -5,7 +5,7 @@ ghost use Rattle.terminal_core.specs.{Rows.{VisitContent, visit_content}, State.
 ghost use Rattle.yard_core.specs.{Plan.IsPlan, SoundYard.IsSound, YardMap.placement_of};
 
 use crate::change::Place;
-use crate::visits::{Visit, is_open, last_of};
+use crate::visits::{Visit, is_open, newest_number};
 use std::alloc::{AllocError, Global};
 use thiserror::Error;
 use yard_core::{Plan, Yard, YardFault};
@@ -51,7 +51,7 @@ pub(crate) fn restored_yard(
     ensures ok { IfOk result (IsYardOf plan visit_limit (map visit_content visits.now) places.items) }
     ensures unsound { IfErr result (RefusesYard plan visit_limit (map visit_content visits.now) places.items) }
 {
-    if last_of(visits) > visit_limit || !are_numbered(visits) {
+    if newest_number(visits) > visit_limit || !are_numbered(visits) {
         return Err(RestoreFault::Unsound);
     }
     let numbers = numbers_of(alloc, visits)?;

@@ -151,7 +151,7 @@ impl Visits {
     pub(crate) fn last_number(&self) -> u32
         ensures { result ≡ last_number self.now.visits }
     {
-        last_of(&self.rows)
+        newest_number(&self.rows)
     }
 
     /// The container's visit that is open.
@@ -262,11 +262,11 @@ fn open_at(rows: &[Visit], row_index: usize) -> Option<&Visit>
     }
 }
 
-/// The number of the last of these visits, 0 if there is none.
-pub(crate) fn last_of(rows: &[Visit]) -> u32
-    ensures { result ≡ last_number (map visit_content rows.now) }
+/// The number of the newest of these visits, 0 if there is none.
+pub fn newest_number(visits: &[Visit]) -> u32
+    ensures { result ≡ last_number (map visit_content visits.now) }
 {
-    match rows.last() {
+    match visits.last() {
         Some(visit) => visit.number,
         None => 0,
     }

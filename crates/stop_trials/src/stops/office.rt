@@ -10,7 +10,7 @@ use office_admission::{Account, Accounts, Setup};
 use office_desk::Desk;
 use office_loading::Closed;
 use office_replies::AddAccount;
-use office_reports::{ReportKind, read_query};
+use office_reports::{ReportKind, View, read_query};
 use office_tables::create;
 use sqlite::{Alter, Connection, Error, FileStore, Files, Options};
 use sqlite_disk::Disk;
@@ -170,7 +170,7 @@ fn told<S: Alter + Drop>(
     kind: ReportKind,
     key: &str,
 ) -> Option<String> {
-    match read_query(alloc, kind, key) {
+    match read_query(alloc, kind, View::Text, key) {
         Ok(Some(query)) => desk.find_report(alloc, &query).ok()?,
         _ => None,
     }

@@ -12,15 +12,20 @@ returns-clause-report g c = λ clean.
     let old = state g.S.Store c.args.conn.now in
     let before = was_clean c.tell.ensures.reads clean in
     let same = (c.in_ok-setup.ensures.reads.unchanged before).0.now_is in
-    if_ok c.tell.result (λ found told rows has once. record {
-      db = old.now;
-      has = has;
-      closed = closed_content c.args.closed.now;
-      content = setup_content c.in_ok-setup.setup;
-      terminal = c.in_ok-setup.terminal;
-      loads = c.in_ok-setup.ensures.loaded before has.schema;
-      tells = told rows (subst (HasRows rows) (sym same) has) once;
-    })
+    if_ok c.tell.result (λ found told rows has once.
+    let tells = told rows (subst (HasRows rows) (sym same) has) once in (
+      tells.0,
+      record {
+        db = old.now;
+        has = has;
+        closed = closed_content c.args.closed.now;
+        content = setup_content c.in_ok-setup.setup;
+        terminal = c.in_ok-setup.terminal;
+        loads = c.in_ok-setup.ensures.loaded before has.schema;
+        tells = tells.1;
+      },
+      tells.2,
+    ))
     (c.tell.ensures.told clean)
 
 pub returns-clause-reads : goal.returns-clause-reads

@@ -3,7 +3,9 @@ use Rattle.sqlite.specs.{Effect.Database, Held.state}
 use Rattle.office_admission.specs.Setups.{setup_content}
 use Rattle.office_loading.specs.{Closed.closed_content, Tables.LoadsOwn}
 use Rattle.office_tables.proofs.MadeLemmas.{clean_first, reads_on, ◌then◌}
+use Rattle.office_report_data.specs.Told.{shown}
 use Rattle.office_archives.proofs.Rising.{taken_in}
+use Rattle.office_report_data.specs.Told as value
 use Rattle.office_archives.proofs.former_store.ticket_by.Goals as goal
 
 pub returns-clause-ticket : goal.returns-clause-ticket
@@ -22,7 +24,7 @@ returns-clause-ticket g c clean rows has once =
       terminal = c.in_ok-terminal.terminal;
       loads = subst (λ db. LoadsOwn closed db content c.in_ok-terminal.terminal) same loads;
       taken = taken_in rows c.args.partner c.args.number c.in_ok-kept.field-0 once (c.in_ok-kept.ensures.answer before rows has) (sym c.was_taken.ensures ∙ c.if-not-was_taken.false);
-      tells = c.in_ok-ticket.ensures;
+      tells = c.in_ok-show_ticket.ensures ∙ ap (λ told. shown c.args.view (value.ticket told)) c.in_ok-report.ensures;
     }
 
 pub returns-clause-reads : goal.returns-clause-reads

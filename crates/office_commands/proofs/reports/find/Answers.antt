@@ -15,20 +15,20 @@ pub returns-in-Some-clause-found : goal.returns-in-Some-clause-found
 returns-in-Some-clause-found g c =
     let old = c.args.office.now in
     let are = g.A.Archives.are in
-    let key_is : query_of c.args.kind c.args.key.now ≡ Some (query_content c.in-Some.query) = sym c.in_ok-query.ensures ∙ ap (option_map query_content) c.in-Some.is in
+    let key_is : query_of c.args.kind c.args.view c.args.key.now ≡ Some (query_content c.in-Some.query) = sym c.in_ok-query.ensures ∙ ap (option_map query_content) c.in-Some.is in
     let told = c.find_report.ensures in
     IfOk-weaker c.find_report.result _ _
     (λ found both image opens. record {
       tells = λ sound whole. inr (c.in-Some.query, key_is, both.0 sound whole);
       alone = λ alone sound.
-          told_held g.S.Store are image (old.desk, old.archives) c.args.kind c.args.key.now (option_map string_bytes found) opens alone (told.looks.stays sound)
+          told_held g.S.Store are image (old.desk, old.archives) c.args.kind c.args.view c.args.key.now (option_map string_bytes found) opens alone (told.looks.stays sound)
           (inr (c.in-Some.query, key_is, both.1 alone.none sound));
     })
     (told_of c.find_report.result _ _ _ _ _ told.told told.alone)
 
 pub returns-in-None-clause-found : goal.returns-in-None-clause-found
 returns-in-None-clause-found g c image opens =
-    let none : query_of c.args.kind c.args.key.now ≡ None = sym c.in_ok-query.ensures ∙ ap (option_map query_content) c.in-None.is in
+    let none : query_of c.args.kind c.args.view c.args.key.now ≡ None = sym c.in_ok-query.ensures ∙ ap (option_map query_content) c.in-None.is in
     record {
       tells = λ sound whole. inl (none, refl);
       alone = λ alone sound. record { after = λ content es begins. inl (none, refl); office = λ db held. inl (none, refl) };
@@ -59,6 +59,6 @@ returns-in_err-query-clause-looks g c image =
 
 pub returns-in-Some-clause-fault : goal.returns-in-Some-clause-fault
 returns-in-Some-clause-fault g c sound =
-    let key_is : query_of c.args.kind c.args.key.now ≡ Some (query_content c.in-Some.query) = sym c.in_ok-query.ensures ∙ ap (option_map query_content) c.in-Some.is in
+    let key_is : query_of c.args.kind c.args.view c.args.key.now ≡ Some (query_content c.in-Some.query) = sym c.in_ok-query.ensures ∙ ap (option_map query_content) c.in-Some.is in
     IfErr-weaker c.find_report.result _ _ (λ fault both. inr (c.in-Some.query, key_is, both.0, both.1))
     (err_both c.find_report.result _ _ _ (c.find_report.ensures.fault sound) (λ none. c.find_report.ensures.alone_fault none sound))

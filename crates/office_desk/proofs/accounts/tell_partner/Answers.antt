@@ -1,21 +1,27 @@
-use Rattle.std.proofs.{Common.{◌≡◌, ◌+◌, ◌<◌, List, get_or, length, string_bytes, sym, subst, ◌∙◌, arith}, lemmas.Result.err_from_is_err_and}
+use Rattle.std.proofs.{Common.{◌≡◌, ◌+◌, ◌<◌, List, None, Some, get_or, length, refl, sym, ap, subst, ◌∙◌, arith}, lemmas.Result.err_from_is_err_and}
 use Rattle.office_admission.specs.{declared.setup.Account.Account, Setups.account_contents}
 use Rattle.office_tables.proofs.WritesLemmas.{of_store_weaker}
+use Rattle.office_reports.specs.Partners.{partner_content, row_of}
+use Rattle.office_report_data.specs.Told.{shown}
 use Rattle.office_desk.{specs.Causes.{LacksNumbers, LacksSome}, proofs.PageLemmas.{some_lacks, told_of_none, told_one}}
+use Rattle.office_report_data.specs.Told as value
 use Rattle.office_desk.proofs.accounts.tell_partner.Goals as goal
 
-pub returns-in_ok-partner_report-in-Some-clause-told : goal.returns-in_ok-partner_report-in-Some-clause-told
-returns-in_ok-partner_report-in-Some-clause-told g c clean rows has =
+pub returns-in_ok-show_partner-in-Some-clause-told : goal.returns-in_ok-show_partner-in-Some-clause-told
+returns-in_ok-show_partner-in-Some-clause-told g c clean rows has =
     let items = c.args.setup.now.partners.items in
     let index = c.in-Some.index in
     let account = c.index-accounts-index.result in
     let low : index < length items = rw c.in-Some.is at c.index_called.ensures.within in
     let there : account ≡ get_or items index account = subst (λ (l : List Account). account ≡ get_or l index account) c.as_slice-accounts.ensures c.index-accounts-index.is in
-    told_one rows items c.args.code.now index account c.in_ok-partner-in-Some.partner (string_bytes c.in_ok-partner_report-in-Some.field-0) low there
-    (sym c.in-Some.is ∙ c.index_called.ensures.index) (c.in_ok-partner-in-Some.ensures.is clean rows has) c.in_ok-partner_report-in-Some.ensures
+    let partner = c.in_ok-partner-in-Some.partner in (
+      Some (value.partner (row_of (partner_content partner))),
+      told_one rows items c.args.code.now index account partner low there (sym c.in-Some.is ∙ c.index_called.ensures.index) (c.in_ok-partner-in-Some.ensures.is clean rows has),
+      ap Some (c.in_ok-show_partner-in-Some.ensures ∙ ap (λ row. shown c.args.view (value.partner row)) c.partner_row.ensures),
+    )
 
 pub returns-in-None-clause-told : goal.returns-in-None-clause-told
-returns-in-None-clause-told g c clean rows has = told_of_none rows c.args.setup.now.partners.items c.args.code.now (sym c.in-None.is ∙ c.index_called.ensures.index)
+returns-in-None-clause-told g c clean rows has = (None, told_of_none rows c.args.setup.now.partners.items c.args.code.now (sym c.in-None.is ∙ c.index_called.ensures.index), refl)
 
 -- ---- why it can't be reported
 

@@ -1,8 +1,8 @@
-use Rattle.std.proofs.{Common.{◌≡◌, inl, inr, None, Some, sym, subst}, lemmas.Result.err_from_is_err_and}
+use Rattle.std.proofs.{Common.{◌≡◌, inl, inr, None, Some, option_map, string_bytes, refl, sym, ap, subst}, lemmas.Result.err_from_is_err_and}
 use Rattle.sqlite.specs.Held.{state}
 use Rattle.office_rows.specs.Stored.{HasRows}
 use Rattle.office_tables.{specs.Answers.IsKept, proofs.{WritesLemmas.of_store_weaker, MadeLemmas.{clean_first, reads_on, reads_stopped, ◌then◌}}}
-use Rattle.office_desk.proofs.Faults.{told_kept, told_nothing}
+use Rattle.office_desk.{specs.Reports.answered, proofs.Faults.{told_kept, told_nothing}}
 use Rattle.office_desk.proofs.answers.tell_reply.Goals as goal
 
 pub returns-in_ok-tell_kept-in-Some-clause-told : goal.returns-in_ok-tell_kept-in-Some-clause-told
@@ -11,14 +11,18 @@ returns-in_ok-tell_kept-in-Some-clause-told g c clean rows has once =
     let is : c.in_ok-kept.field-0 ≡ Some c.in-Some.kept = let f = c.in-Some.is in cc in
     let before = clean_first c.next_of.ensures.reads clean in
     let there : HasRows rows (state g.S.Store c.kept.new.conn).now = subst (HasRows rows) (sym (c.in_ok-kept.ensures.reads.unchanged before).0.now_is) has in
-    told_kept rows a.partner a.number once a.code.now c.in-Some.kept c.in_ok-next-in-Some.next _ (subst (IsKept a.partner a.number rows) is (c.in_ok-kept.ensures.answer before rows has))
-    (c.in_ok-next-in-Some.ensures.answer clean rows there) c.in_ok-tell_kept-in-Some.ensures
+    let next = c.in_ok-next-in-Some.next in (
+      Some (answered a.code.now a.number next (option_map string_bytes c.in-Some.kept.reply)),
+      told_kept rows a.partner a.number once a.code.now c.in-Some.kept next (subst (IsKept a.partner a.number rows) is (c.in_ok-kept.ensures.answer before rows has))
+          (c.in_ok-next-in-Some.ensures.answer clean rows there),
+      ap Some c.in_ok-tell_kept-in-Some.ensures,
+    )
 
 pub returns-in-None-clause-told : goal.returns-in-None-clause-told
 returns-in-None-clause-told g c clean rows has once =
     let a = c.args in
     let is : c.in_ok-kept.field-0 ≡ None = let f = c.in-None.is in cc in
-    told_nothing rows a.partner a.number once a.code.now (subst (IsKept a.partner a.number rows) is (c.in_ok-kept.ensures.answer clean rows has))
+    (None, told_nothing rows a.partner a.number once a.code.now (subst (IsKept a.partner a.number rows) is (c.in_ok-kept.ensures.answer clean rows has)), refl)
 
 -- ---- two reads
 

@@ -19,7 +19,7 @@ pub returns-clause-ok : goal.returns-clause-ok
 returns-clause-ok c =
     let P : List Place → Type 0 = AreNamed (map visit_content c.args.visits.now) in
     let Q : List Place → Type 0 = λ places. ArePlacesOf (map visit_content c.args.visits.now) c.in_ok-yard.yard.boxes places in
-    let last : last_number (map visit_content c.args.visits.now) ≤ c.args.visit_limit = omega (arith, c.last_of.ensures, c.if-last_of-visit_limit.false) in
+    let last : last_number (map visit_content c.args.visits.now) ≤ c.args.visit_limit = omega (arith, c.newest_number.ensures, c.if-newest_number-visit_limit.false) in
     whole_of c.args.plan c.args.visit_limit (map visit_content c.args.visits.now) c.args.places.items c.sort_by_tier.new.places.items c.in_ok-yard.yard c.in_ok-yard.ensures.plan.0 c.in_ok-yard.ensures.plan.1 c.in_ok-yard.ensures.sound
     (c.are_numbered.ensures.0 c.if-not-are_numbered.false) last c.in_ok-sort_by_tier.ensures.moved (subst Q c.deref-2.ensures.value c.in_ok-yard.ensures.placed)
     (subst P c.deref-4.ensures.value (c.in_ok-are_all_named.ensures.0 c.if-not-branch.false))

@@ -15,9 +15,10 @@ returns-clause-told g c = λ sound whole.
     let there = c.archives_with_lists-count.ensures list these (omega (arith, many)) in
     subst (λ first. (put_away : Bool) × SaysIfAway first put_away × (c.archives_with_lists-count.result ≡ archives_with_lists first put_away)) (take_all c.count.result list (omega (arith, many))) there
     in
-    subst (λ q. TellsBeside g.S.Store g.A.Archives.are self.desk self.archives q found) (sym c.requires)
-    (calls_beside g.S.Store g.A.Archives.are self.desk self.archives told found c.archives_with_lists-count.result counted
-    (subst (λ q. DeskTells g.S.Store self.desk q told) c.requires (c.in_ok-told.ensures.told sound)) c.in_ok-with_archives.ensures)
+    let view = c.args.query.now.view in
+    subst (λ q. TellsBeside g.S.Store g.A.Archives.are self.desk self.archives (record { about = q; view = view }) found) (sym c.requires)
+    (calls_beside g.S.Store g.A.Archives.are self.desk self.archives view told found c.archives_with_lists-count.result counted
+    (subst (λ q. DeskTells g.S.Store self.desk (record { about = q; view = view }) told) c.requires (c.in_ok-told.ensures.told sound)) c.in_ok-with_archives.ensures)
 
 pub returns-clause-looks : goal.returns-clause-looks
 returns-clause-looks g c =

@@ -49,16 +49,16 @@ pub returns-in_err-lines-clause-fault : goal.returns-in_err-lines-clause-fault
 returns-in_err-lines-clause-fault g c = λ sound.
     let desk = c.args.self.now.desk in
     let query = c.args.query.now in
-    err_all c.from_residual.result (IsDeservedHere g.S.Store desk query) (λ fault here. absurd (list_not_here desk query (call_content c.args.call.now) c.args.side c.requires here))
+    err_all c.from_residual.result (IsDeservedHere g.S.Store desk query.about) (λ fault here. absurd (list_not_here desk query.about (call_content c.args.call.now) c.args.side c.requires here))
 
 pub returns-in-Some-clause-fault : goal.returns-in-Some-clause-fault
 returns-in-Some-clause-fault g c = λ sound.
     let desk = c.args.self.now.desk in
     let query = c.args.query.now in
-    err_all c.report_by_lines.result (IsDeservedHere g.S.Store desk query) (λ fault here. absurd (list_not_here desk query (call_content c.args.call.now) c.args.side c.requires here))
+    err_all c.report_by_lines.result (IsDeservedHere g.S.Store desk query.about) (λ fault here. absurd (list_not_here desk query.about (call_content c.args.call.now) c.args.side c.requires here))
 
 pub returns-in-None-clause-fault : goal.returns-in-None-clause-fault
 returns-in-None-clause-fault g c = λ sound.
     let desk = c.args.self.now.desk in
     let query = c.args.query.now in
-    err_all c.find_report.result (IsDeservedHere g.S.Store desk query) (λ fault here. absurd (list_not_here desk query (call_content c.args.call.now) c.args.side c.requires here))
+    err_all c.find_report.result (IsDeservedHere g.S.Store desk query.about) (λ fault here. absurd (list_not_here desk query.about (call_content c.args.call.now) c.args.side c.requires here))

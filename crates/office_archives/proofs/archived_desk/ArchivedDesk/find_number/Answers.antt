@@ -59,5 +59,5 @@ pub returns-clause-fault : goal.returns-clause-fault
 returns-clause-fault g c = λ sound.
     let desk = c.args.self.now.desk in
     let query = c.args.query.now in
-    err_all c.tell_closed.result (IsDeservedHere g.S.Store desk query) (λ fault here.
-    absurd (number_not_here desk query c.args.code.now c.args.number c.in-Some.partner c.requires (sym c.partner_called.ensures ∙ c.in-Some.is) (sym c.is_closed.ensures ∙ c.if-not-is_closed.false) here))
+    err_all c.tell_closed.result (IsDeservedHere g.S.Store desk query.about) (λ fault here.
+    absurd (number_not_here desk query.about c.args.code.now c.args.number c.in-Some.partner c.requires (sym c.partner_called.ensures ∙ c.in-Some.is) (sym c.is_closed.ensures ∙ c.if-not-is_closed.false) here))

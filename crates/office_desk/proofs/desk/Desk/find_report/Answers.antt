@@ -6,7 +6,7 @@ use Rattle.office_tables.{specs.DeliveryReading.IsSame, proofs.{WritesLemmas.{of
 use Rattle.office_loading.specs.Closed.{closed_content}
 use Rattle.office_desk.{specs.{Beside.{IsBeside, IsOrNone}, Finding.StaysBeside, Offices.HoldsOffice, Reports.TellsOf}, proofs.Faults.asked_unfit}
 use Rattle.office_desk.proofs.{DeliverLemmas.{keeps_accounts, office_once, office_with}, HoldLemmas.{leaves_less, held_with}}
-use Rattle.office_history.specs.After.{machine_after}
+use Rattle.office_history.specs.After.{content_after, machine_after}
 use Rattle.office_admission.specs.Setups.{setup_content}
 use Rattle.office_desk.proofs.desk.Desk.find_report.Goals as goal
 
@@ -28,13 +28,11 @@ returns-clause-told g c = λ sound.
           let has : HasRows holds.rows old.now = subst (HasRows holds.rows) (sym settled) holds.has in
           let same : IsSame old mid = c.in_ok-there.ensures.reads.same clean in
           let beside : IsBeside opening es (Some there) = stays.events opening es holds.rows holds.given has holds.after holds.beside in
-          record {
-            rows = holds.rows;
-            after = holds.after;
-            tells = subst (λ k. TellsOf k (machine_after opening es).terminal holds.rows c.args.query.now (option_map string_bytes found)) (sym holds.now_is)
-                (subst (λ t. TellsOf content t holds.rows c.args.query.now (option_map string_bytes found)) (ap (λ m. m.terminal) beside.terminal)
-                (told holds.rows (subst (HasRows holds.rows) (sym same.now) has) holds.after.kept_once));
-          };
+          let tells : TellsOf (content_after opening es) (machine_after opening es).terminal holds.rows c.args.query.now (option_map string_bytes found) =
+          subst (λ k. TellsOf k (machine_after opening es).terminal holds.rows c.args.query.now (option_map string_bytes found)) (sym holds.now_is)
+          (subst (λ t. TellsOf content t holds.rows c.args.query.now (option_map string_bytes found)) (ap (λ m. m.terminal) beside.terminal)
+          (told holds.rows (subst (HasRows holds.rows) (sym same.now) has) holds.after.kept_once)) in
+          (tells.0, record { rows = holds.rows; after = holds.after; tells = tells.1 }, tells.2);
       office = λ rows kept holds.
           let now : HoldsOffice closed content rows kept old.now c.args.self.now.beside = office_with closed content rows kept old.committed old.now c.args.self.now.beside c.args.self.now.beside settled holds.beside holds in
           let same : IsSame old mid = c.in_ok-there.ensures.reads.same clean in
@@ -106,7 +104,7 @@ pub returns-clause-fault : goal.returns-clause-fault
 returns-clause-fault g c = λ sound.
     let content = setup_content c.args.self.now.setup in
     let closed = closed_content c.args.self.now.closed in
-    let asked = c.args.query.now in
+    let asked = c.args.query.now.about in
     let old = state g.S.Store c.args.self.now.conn in
     let mid = state g.S.Store c.beside_of.new.conn in
     let reads = c.tell-found.ensures.reads in

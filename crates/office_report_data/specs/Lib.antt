@@ -1,0 +1,16 @@
+pub mod Words
+pub mod Archives
+pub mod Rows
+pub mod Tables
+pub mod Containers
+pub mod Yard
+pub mod Lists
+pub mod Work
+pub mod Visits
+pub mod Calls
+pub mod Partners
+pub mod Blocks
+pub mod Tickets
+pub mod Interchanges
+pub mod Last
+pub mod Told
