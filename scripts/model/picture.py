@@ -38,7 +38,7 @@ use~text:last-child{font-weight:400}
 @page{size:landscape;margin:1cm}
 @media print{body{background:none}main,section{padding:0}section{border:0}nav{display:none}figure{break-inside:avoid}figure svg{max-width:100%;height:auto}h2{break-after:avoid}svg.row{position:absolute;width:0;height:0}svg.paper{display:block}}
 '''
-HEAD = '''\
+TOP = '''\
 <!doctype html>
 <html lang='en'>
 <head>
@@ -46,9 +46,8 @@ HEAD = '''\
 <meta name='viewport' content='width=device-width,initial-scale=1'>
 <link rel='icon' href='data:,'>
 <style>
-''' + STYLE + '''\
-</style>
 '''
+HEAD = TOP + STYLE + '</style>\n'
 SHAPES = '''\
 </head>
 <body>

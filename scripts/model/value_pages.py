@@ -12,7 +12,7 @@ from .lookups import (
 from .meanings import MEANINGS
 from .moments import day_number
 from .names import slot_text
-from .picture import escaped
+from .picture import TOP, escaped
 from .reports import as_text, reported
 from .words import moment_text
 from .yard import blocker, cells
@@ -90,15 +90,6 @@ pre{margin:0;padding:.25rem 1rem 1rem;font:14px/1.7 ui-monospace,'DejaVu Sans Mo
 @media(max-width:40rem){header>div{padding:.5rem}main{padding:1rem .5rem 2rem}nav{flex:1 1 100%;gap:0;justify-content:space-between}nav a{padding:.55rem .35rem;font-size:.9375rem}form{flex:1}input{flex:1;width:6rem;min-width:0}.o{display:none}th,td{padding:.55rem .3rem}th:first-child,td:first-child{padding-left:.6rem}th:last-child,td:last-child{padding-right:.6rem}h2{padding:.75rem .6rem}dl{padding-left:.6rem;padding-right:.6rem}.place,section>p,.todo li{padding:.75rem .6rem}.m{font-size:.875rem}pre{padding:.25rem .6rem .75rem;font-size:12.5px}.how span{width:auto}.how progress{display:block;width:100%;height:.5rem;margin:.35rem 0 .15rem}.sum{grid-template-columns:repeat(auto-fit,minmax(6rem,1fr));gap:.5rem}.sum li{padding:.6rem}}
 @media print{body{background:none;font-size:11pt}header,.beside,.only{display:none}main{max-width:none;padding:0}section{border:0}tr,li{break-inside:avoid}thead{display:table-header-group}a{color:inherit;text-decoration:none}.s{border-color:#16263a;background:none;color:#16263a}}
 '''
-HEAD = '''\
-<!doctype html>
-<html lang='en'>
-<head>
-<meta charset='utf-8'>
-<meta name='viewport' content='width=device-width,initial-scale=1'>
-<link rel='icon' href='data:,'>
-<style>
-'''
 FINDING = '''\
 </nav>
 <form action='/pages/find'>
@@ -133,7 +124,7 @@ def framed(here, title, body, asks_again=False, typed=''):
     """A page: its title, the links to the reports without a key, of which one may be the page itself, the field, in which what was
     typed stays, and what it shows."""
     tabs = ["<a href='%s'%s>%s</a>\n" % (where, " aria-current='page'" if where == here else '', name) for where, name in TABS]
-    return (HEAD + STYLE + '</style>\n' + (ASKED_AGAIN if asks_again else '') + '<title>' + title
+    return (TOP + STYLE + '</style>\n' + (ASKED_AGAIN if asks_again else '') + '<title>' + title
             + '</title>\n</head>\n<body>\n<header>\n<div>\n<nav>\n' + ''.join(tabs) + FINDING % (" value='%s'" % escaped(typed) if typed else '') + body + END)
 
 
